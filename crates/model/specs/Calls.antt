@@ -1,0 +1,114 @@
+-- What each call gives: its number, its figures, and what each lent slice holds afterwards. "A refusal carries its number and 0 for every other
+-- figure, and writes no byte. Success writes the stated front of a slice and leaves the rest as before."
+-- Assumes nothing.
+use Prim.Native.Nat.{ℕ, zero, suc, _+_, _*_, _^_}
+use mathlib.Core.Bool.{Bool, true, false, _&&_, cond}
+use mathlib.Core.List.{List, [], _∷_, _++_}
+use lib.IntN.{ℤ, pos}
+use lib.Dec.{eqb, leb, ltb}
+use lib.ListN.{length, take, drop}
+use Rattle.model.specs.Lists.{forEach}
+use Rattle.model.specs.Model.{Words, stateCount}
+use Rattle.model.specs.Questions.{Question, firstNo, andThen, bookNumber}
+use Rattle.model.specs.Policy.{Policy, isPolicy}
+use Rattle.model.specs.Path.{policyCost}
+use Rattle.model.specs.Recursion.{leastCostToGo}
+use Rattle.model.specs.Order.{ranking, rankingCosts}
+use Rattle.model.specs.Record.{recordBytes, carriedLength, carriedCount, carriedBook, listStart, countQuestions, acceptNumber}
+
+-- what goes with the number 0, and what with any other
+abbrev pub ifAccepted : {A : Type 0} → ℕ → A → A → A
+ifAccepted zero accepted refused = accepted
+ifAccepted (suc n) accepted refused = refused
+
+module _ {A : Type 0} where
+  -- a slice whose front is written over
+  abbrev pub over : List A → List A → List A
+  over front slice = front ++ drop (length front) slice
+
+-- "the least cost that of the first plan"
+abbrev pub firstCost : List ℤ → ℤ
+firstCost [] = pos 0
+firstCost (z ∷ zs) = z
+
+-- ---- value: "Valuing asks 1 to 13, then: is the slice a plan of this book? 17."
+
+abbrev pub policyQuestions : Words → List (Question Policy)
+policyQuestions ws = record { number = 17; asks = λ bs. isPolicy ws bs } ∷ []
+
+unfoldable pub valueNumber : Words → Policy → ℕ
+valueNumber ws bs = andThen (bookNumber ws) (firstNo (policyQuestions ws) bs)
+
+unfoldable pub valueCost : Words → Policy → ℤ
+valueCost ws bs = ifAccepted (valueNumber ws bs) (policyCost ws bs) (pos 0)
+
+-- ---- least: "The least cost asks 1 to 13 alone."
+
+unfoldable pub leastCost : Words → ℤ
+leastCost ws = ifAccepted (bookNumber ws) (firstCost (rankingCosts ws 1)) (pos 0)
+
+-- ---- rank: "Does the lent slice of 64-bit costs have K places? 15. Does the plan slice have K × S bytes? 16."
+
+-- K and the lengths of the two lent slices
+pub record Room : Type 0 where
+  pub k : ℕ
+  pub costs : ℕ
+  pub plans : ℕ
+
+abbrev pub roomQuestions : Words → List (Question Room)
+roomQuestions ws =
+    record { number = 15; asks = λ room. leb (room .k) (room .costs) }
+    ∷ record { number = 16; asks = λ room. leb (room .k * stateCount ws) (room .plans) }
+    ∷ []
+
+unfoldable pub rankNumber : Words → Room → ℕ
+rankNumber ws room =
+    andThen (bookNumber ws) (andThen (firstNo countQuestions (room .k)) (firstNo (roomQuestions ws) room))
+
+unfoldable pub rankCount : Words → Room → ℕ
+rankCount ws room = ifAccepted (rankNumber ws room) (length (ranking ws (room .k))) 0
+
+-- the two slices afterwards, of which `costs` and `plans` are the contents before
+abbrev pub roomOf : ℕ → List ℤ → List ℕ → Room
+roomOf k costs plans = record { k = k; costs = length costs; plans = length plans }
+
+unfoldable pub rankCosts : Words → ℕ → List ℤ → List ℕ → List ℤ
+rankCosts ws k costs plans = ifAccepted (rankNumber ws (roomOf k costs plans)) (over (rankingCosts ws k) costs) costs
+
+unfoldable pub rankPlans : Words → ℕ → List ℤ → List ℕ → List ℕ
+rankPlans ws k costs plans =
+    ifAccepted (rankNumber ws (roomOf k costs plans)) (over (forEach (λ (p : Policy). p) (ranking ws k)) plans) plans
+
+-- ---- write: "Writing a record asks 1 to 14, then: does the lent slice hold the record? 18."
+
+abbrev pub writeQuestions : Words → ℕ → List (Question ℕ)
+writeQuestions ws k = record { number = 18; asks = λ room. leb (length (recordBytes ws k)) room } ∷ []
+
+unfoldable pub writeNumber : Words → ℕ → ℕ → ℕ
+writeNumber ws k room = andThen (bookNumber ws) (andThen (firstNo countQuestions k) (firstNo (writeQuestions ws k) room))
+
+unfoldable pub writeLength : Words → ℕ → ℕ → ℕ
+writeLength ws k room = ifAccepted (writeNumber ws k room) (length (recordBytes ws k)) 0
+
+unfoldable pub writeRecord : Words → ℕ → List ℕ → List ℕ
+writeRecord ws k slice = ifAccepted (writeNumber ws k (length slice)) (over (recordBytes ws k) slice) slice
+
+-- ---- accept: "accepting S and k"
+
+unfoldable pub acceptStates : List ℕ → ℕ
+acceptStates bs = ifAccepted (acceptNumber bs) (stateCount (carriedBook bs)) 0
+
+unfoldable pub acceptCount : List ℕ → ℕ
+acceptCount bs = ifAccepted (acceptNumber bs) (carriedCount bs) 0
+
+-- ---- show: "Showing plan j of a record gives its S bytes as part of the record itself, or an empty part if the record isn't accepted or j is k or more"
+
+unfoldable pub shown : List ℕ → ℕ → List ℕ
+shown bs j =
+    cond (ltb j (acceptCount bs))
+    (take (acceptStates bs) (drop (listStart bs + 8 * acceptCount bs + j * acceptStates bs) bs)) []
+
+-- ---- power: "D^e for every D from 1 to 100 and e from 0 to 8"; "a lookup for any other D or e gives 0"
+
+unfoldable pub powerOf : ℕ → ℕ → ℕ
+powerOf d e = cond (leb 1 d && leb d 100 && leb e 8) (d ^ e) 0

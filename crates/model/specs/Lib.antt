@@ -1,0 +1,11 @@
+pub mod Lists
+pub mod Model
+pub mod Questions
+pub mod Policy
+pub mod Path
+pub mod Recursion
+pub mod Order
+pub mod Bytes
+pub mod Record
+pub mod Page
+pub mod Calls

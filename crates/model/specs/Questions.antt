@@ -1,0 +1,122 @@
+-- The questions 1 to 13 of a book. "Each is put to the whole input before the next. The first "no" gives its number; 0 means accepted."
+-- Assumes nothing.
+use Prim.Native.Nat.{ℕ, zero, suc, _+_, _*_, _^_}
+use mathlib.Core.Bool.{Bool, true, false, _&&_, _||_, cond}
+use mathlib.Core.List.{List, [], _∷_, _++_}
+use lib.IntN.{ℤ, pos, negsuc, natAbs}
+use lib.Signed.{leZ, ltZ}
+use lib.Dec.{eqb, leb, ltb}
+use lib.ListN.{length}
+use Rattle.model.specs.Lists.{all, sumTo, maxTo}
+use Rattle.model.specs.Model.{Words, word, scale, horizon, lineCount, stageSize, stateCount, stage, actionCount, left, right, branches, lineAfter, stateLine, actionLine}
+
+-- a question has a number and is put to an input
+pub record Question (A : Type 0) : Type 0 where
+  pub number : ℕ
+  pub asks : A → Bool
+
+module _ {A : Type 0} where
+  -- the number of the first "no", or 0
+  unfoldable pub firstNo : List (Question A) → A → ℕ
+  firstNo [] x = 0
+  firstNo (q ∷ qs) x = elim (q .asks x) [ true ↦ firstNo qs x | false ↦ q .number ]
+
+-- the number of a first run of questions, and where that is 0 the number of the next
+abbrev pub andThen : ℕ → ℕ → ℕ
+andThen zero n = n
+andThen (suc m) n = suc m
+
+-- from lo to hi, both ends allowed
+abbrev pub inside : ℤ → ℤ → ℤ → Bool
+inside lo hi z = leZ lo z && leZ z hi
+
+-- ---- 6 to 8: sizes
+
+-- "one post at stage 0 and 1 to 16 at every other; S at most 64"
+unfoldable pub sizesAllowed : Words → Bool
+sizesAllowed ws =
+    inside (pos 1) (pos 1) (word ws 3) && all (horizon ws) (λ (n : ℕ). inside (pos 1) (pos 16) (word ws (4 + n)))
+    && leb (stateCount ws) 64
+
+-- "1 to 8 choices a post"; "At stage H each post has one choice": the most actions that a state of stage n may have
+unfoldable pub mostActions : Words → ℕ → ℕ
+mostActions ws n = cond (eqb n (horizon ws)) 1 8
+
+unfoldable pub countsAllowed : Words → Bool
+countsAllowed ws =
+    all (stateCount ws) (λ (p : ℕ). inside (pos 1) (pos (mostActions ws (stage ws p))) (word ws (4 + horizon ws + p)))
+
+-- ---- 9 to 12: a test of each action, handed its state's stage and its first line
+
+unfoldable pub everyAction : (Words → ℕ → ℕ → Bool) → Words → Bool
+everyAction test ws =
+    all (stateCount ws) (λ (p : ℕ). all (actionCount ws p) (λ (c : ℕ). test ws (stage ws p) (actionLine ws p c)))
+
+-- 9: "r from 1 to 16 before stage H", "with r = 0" at stage H; "do all their lines fit"
+unfoldable pub branchesAllowed : Words → ℕ → ℕ → Bool
+branchesAllowed ws n j =
+    cond (eqb n (horizon ws)) (inside (pos 0) (pos 0) (left ws j)) (inside (pos 1) (pos 16) (left ws j))
+    && leb (lineAfter ws j) (lineCount ws)
+
+-- 10: "costs from -100,000 to 100,000"
+unfoldable pub costAllowed : Words → ℕ → ℕ → Bool
+costAllowed ws n j = inside (negsuc 99999) (pos 100000) (right ws j)
+
+-- 11: "Do the next posts of each choice rise strictly and lie within the next stage?" Each is above the one before it, the first above -1
+abbrev pub nextBefore : Words → ℕ → ℕ → ℤ
+nextBefore ws j zero = negsuc 0
+nextBefore ws j (suc i) = left ws (j + 1 + i)
+
+unfoldable pub nextsAllowed : Words → ℕ → ℕ → Bool
+nextsAllowed ws n j =
+    all (branches ws j)
+    (λ (i : ℕ). ltZ (nextBefore ws j i) (left ws (j + 1 + i)) && ltZ (left ws (j + 1 + i)) (pos (stageSize ws (n + 1))))
+
+-- 12: "Is every weight from 1 to D, and does each choice's sum to exactly D (before stage H)?"
+unfoldable pub weightSum : Words → ℕ → ℕ
+weightSum ws j = sumTo (branches ws j) (λ (i : ℕ). natAbs (right ws (j + 1 + i)))
+
+unfoldable pub weightsAllowed : Words → ℕ → ℕ → Bool
+weightsAllowed ws n j =
+    all (branches ws j) (λ (i : ℕ). inside (pos 1) (pos (scale ws)) (right ws (j + 1 + i)))
+    && (eqb n (horizon ws) || eqb (weightSum ws j) (scale ws))
+
+-- ---- 13
+
+-- "largest cost without its sign"
+unfoldable pub largestCost : Words → ℕ
+largestCost ws =
+    maxTo (stateCount ws) (λ (p : ℕ). maxTo (actionCount ws p) (λ (c : ℕ). natAbs (right ws (actionLine ws p c))))
+
+unfoldable pub costsBounded : Words → Bool
+costsBounded ws = leb (scale ws ^ horizon ws * (horizon ws + 1) * largestCost ws) 4000000000000000000
+
+-- ---- the table
+
+abbrev pub sizeQuestions : List (Question Words)
+sizeQuestions =
+    record { number = 1; asks = λ ws. leb 3 (length ws) }
+    ∷ record { number = 2; asks = λ ws. inside (pos 1) (pos 100) (word ws 0) }
+    ∷ record { number = 3; asks = λ ws. inside (pos 1) (pos 8) (word ws 1) }
+    ∷ record { number = 4; asks = λ ws. inside (pos 1) (pos 2048) (word ws 2) }
+    ∷ record { number = 5; asks = λ ws. leb (4 + horizon ws) (length ws) }
+    ∷ record { number = 6; asks = sizesAllowed }
+    ∷ record { number = 7; asks = λ ws. eqb (length ws) (4 + horizon ws + stateCount ws + 2 * lineCount ws) }
+    ∷ record { number = 8; asks = countsAllowed }
+    ∷ []
+
+abbrev pub lineQuestions : List (Question Words)
+lineQuestions =
+    record { number = 9; asks = λ ws. everyAction branchesAllowed ws && eqb (stateLine ws (stateCount ws)) (lineCount ws) }
+    ∷ record { number = 10; asks = everyAction costAllowed }
+    ∷ record { number = 11; asks = everyAction nextsAllowed }
+    ∷ record { number = 12; asks = everyAction weightsAllowed }
+    ∷ record { number = 13; asks = costsBounded }
+    ∷ []
+
+abbrev pub bookQuestions : List (Question Words)
+bookQuestions = sizeQuestions ++ lineQuestions
+
+-- checking a book: the number of its first "no", or 0
+unfoldable pub bookNumber : Words → ℕ
+bookNumber ws = firstNo bookQuestions ws

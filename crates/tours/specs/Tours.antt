@@ -1,0 +1,130 @@
+-- The twelve tours of document 01: one table of calls and answers, and one proof, by computation, that the definitions yield them.
+-- Assumes nothing.
+use Prim.Native.Nat.{ℕ, zero, suc, _+_, _*_}
+use mathlib.Core.Path.{_≡_, refl}
+use mathlib.Core.List.{List, [], _∷_, _++_, map}
+use lib.IntN.{ℤ, pos, negsuc}
+use lib.ListN.{set, replicate}
+use Rattle.model.specs.Lists.{forEach}
+use Rattle.model.specs.Bytes.{bytes, signedBytes}
+use Rattle.model.specs.Model.{Words, word, scale, horizon, lineCount, stageSize, firstState, stateCount, stage, togo, actionCount, left, right, branches, lineAfter, skip, stateLine, actionLine, transitionAt, readAction, action, options}
+use Rattle.model.specs.Questions.{firstNo, sizesAllowed, mostActions, countsAllowed, everyAction, branchesAllowed, costAllowed, nextsAllowed, weightSum, weightsAllowed, largestCost, costsBounded, bookNumber}
+use Rattle.model.specs.Policy.{Policy, isPolicy, policies}
+use Rattle.model.specs.Path.{taken, paths, policyCost}
+use Rattle.model.specs.Recursion.{leastCostToGo}
+use Rattle.model.specs.Order.{comesBefore, ranking, rankingCosts}
+use Rattle.model.specs.Record.{listBytes, recordBytes, carriedLength, carriedK, carriedCount, carriedBook, listStart, acceptNumber}
+use Rattle.model.specs.Page.{policyLine, policyLines, titleLine, bookPage, page}
+use Rattle.model.specs.Calls.{Room, valueNumber, valueCost, leastCost, rankNumber, rankCount, rankCosts, rankPlans, writeNumber, writeLength, writeRecord, acceptStates, acceptCount}
+use Rattle.tours.specs.Answer.{Call, check, value, least, rank, write, accept, print, Answer, refused, good, cost, listed, slice, record-of, printed, answer}
+
+-- ---- the books
+
+abbrev words : List ℕ → Words
+words ns = map pos ns
+
+-- A is 2, 1, 7, 1, 2, 2, 1, 1, then left 2, 0, 1, 1, 0, 0, 0, right 10, 1, 1, 12, 2, 4, 9
+abbrev pub bookA : Words
+bookA = words (2 ∷ 1 ∷ 7 ∷ 1 ∷ 2 ∷ 2 ∷ 1 ∷ 1 ∷ 2 ∷ 0 ∷ 1 ∷ 1 ∷ 0 ∷ 0 ∷ 0 ∷ 10 ∷ 1 ∷ 1 ∷ 12 ∷ 2 ∷ 4 ∷ 9 ∷ [])
+
+-- C: D = 1, H = 2, posts 1, 2, 1. Post 0: cost 5 to post 1, or cost 3 to post 2. Post 1: cost 1 or 4. Post 2: cost 2. Closing 0.
+abbrev pub bookC : Words
+bookC =
+    words
+    ((1 ∷ 2 ∷ 11 ∷ 1 ∷ 2 ∷ 1 ∷ 2 ∷ 2 ∷ 1 ∷ 1 ∷ [])
+    ++ (1 ∷ 0 ∷ 1 ∷ 1 ∷ 1 ∷ 0 ∷ 1 ∷ 0 ∷ 1 ∷ 0 ∷ 0 ∷ [])
+    ++ (5 ∷ 1 ∷ 3 ∷ 1 ∷ 1 ∷ 1 ∷ 4 ∷ 1 ∷ 2 ∷ 1 ∷ 0 ∷ []))
+
+-- tour 10: D = 100, H = 8, one post a stage, every cost c
+abbrev pub bookE : ℕ → Words
+bookE c =
+    words
+    ((100 ∷ 8 ∷ 17 ∷ []) ++ replicate 18 1
+    ++ (1 ∷ 0 ∷ 1 ∷ 0 ∷ 1 ∷ 0 ∷ 1 ∷ 0 ∷ 1 ∷ 0 ∷ 1 ∷ 0 ∷ 1 ∷ 0 ∷ 1 ∷ 0 ∷ 0 ∷ [])
+    ++ (c ∷ 100 ∷ c ∷ 100 ∷ c ∷ 100 ∷ c ∷ 100 ∷ c ∷ 100 ∷ c ∷ 100 ∷ c ∷ 100 ∷ c ∷ 100 ∷ c ∷ []))
+
+-- ---- the bytes
+
+-- what the printing program reads
+abbrev fileOf : ℕ → Words → List ℕ
+fileOf k ws = bytes 4 k ++ forEach (signedBytes 4) ws
+
+-- "2 of 3, scale 2", "1 32 1 0 -", "2 33 0 0 0"
+abbrev pub pageA : List ℕ
+pageA =
+    (50 ∷ 32 ∷ 111 ∷ 102 ∷ 32 ∷ 51 ∷ 44 ∷ 32 ∷ 115 ∷ 99 ∷ 97 ∷ 108 ∷ 101 ∷ 32 ∷ 50 ∷ 10 ∷ [])
+    ++ (49 ∷ 32 ∷ 51 ∷ 50 ∷ 32 ∷ 49 ∷ 32 ∷ 48 ∷ 32 ∷ 45 ∷ 10 ∷ [])
+    ++ (50 ∷ 32 ∷ 51 ∷ 51 ∷ 32 ∷ 48 ∷ 32 ∷ 48 ∷ 32 ∷ 48 ∷ 10 ∷ [])
+
+-- a number below 256 in four bytes, and in eight
+abbrev four : ℕ → List ℕ
+four n = n ∷ 0 ∷ 0 ∷ 0 ∷ []
+
+abbrev eight : ℕ → List ℕ
+eight n = four n ++ four 0
+
+-- the record of A and K: W, K, k, the book, the costs 32 and 33, the policies
+abbrev pub recordA : ℕ → List ℕ
+recordA k =
+    four 22 ++ four k ++ four 2
+    ++ forEach four (2 ∷ 1 ∷ 7 ∷ 1 ∷ 2 ∷ 2 ∷ 1 ∷ 1 ∷ 2 ∷ 0 ∷ 1 ∷ 1 ∷ 0 ∷ 0 ∷ 0 ∷ 10 ∷ 1 ∷ 1 ∷ 12 ∷ 2 ∷ 4 ∷ 9 ∷ [])
+    ++ eight 32 ++ eight 33 ++ (1 ∷ 0 ∷ 255 ∷ 0 ∷ 0 ∷ 0 ∷ [])
+
+-- ---- the table
+
+pub record Tour : Type 0 where
+  pub call : Call
+  pub due : Answer
+
+-- a slice of costs with K places and one of plans with K × S bytes
+abbrev roomFor : ℕ → ℕ → Room
+roomFor k s = record { k = k; costs = k; plans = k * s }
+
+abbrev pub tours : List Tour
+tours =
+    -- 1
+    record { call = print (fileOf 3 bookA); due = printed pageA }
+    ∷ record {
+      call = rank bookA (roomFor 3 3);
+      due = listed (pos 32 ∷ pos 33 ∷ []) ((1 ∷ 0 ∷ 255 ∷ []) ∷ (0 ∷ 0 ∷ 0 ∷ []) ∷ []);
+    }
+    -- 2
+    ∷ record { call = rank bookA (roomFor 1 3); due = listed (pos 32 ∷ []) ((1 ∷ 0 ∷ 255 ∷ []) ∷ []) }
+    -- 3
+    ∷ record {
+      call = rank (set bookA 21 (pos 8)) (roomFor 3 3);
+      due = listed (pos 32 ∷ pos 32 ∷ []) ((0 ∷ 0 ∷ 0 ∷ []) ∷ (1 ∷ 0 ∷ 255 ∷ []) ∷ []);
+    }
+    -- 4
+    ∷ record {
+      call = rank (set bookA 15 (negsuc 9)) (roomFor 2 3);
+      due = listed (negsuc 6 ∷ pos 32 ∷ []) ((0 ∷ 0 ∷ 0 ∷ []) ∷ (1 ∷ 0 ∷ 255 ∷ []) ∷ []);
+    }
+    -- 5
+    ∷ record {
+      call = rank bookC (roomFor 64 4);
+      due = listed (pos 5 ∷ pos 6 ∷ pos 9 ∷ []) ((1 ∷ 255 ∷ 0 ∷ 0 ∷ []) ∷ (0 ∷ 0 ∷ 255 ∷ 0 ∷ []) ∷ (0 ∷ 1 ∷ 255 ∷ 0 ∷ []) ∷ []);
+    }
+    -- 6
+    ∷ record { call = value bookC (0 ∷ 0 ∷ 0 ∷ 0 ∷ []); due = refused 17 }
+    -- 7
+    ∷ record { call = rank bookA (roomFor 0 3); due = refused 14 }
+    ∷ record { call = rank bookA (roomFor 65 3); due = refused 14 }
+    -- 8
+    ∷ record { call = check []; due = refused 1 }
+    -- 9
+    ∷ record { call = check (set bookA 0 (pos 3)); due = refused 12 }
+    -- 10
+    ∷ record { call = check (bookE 44); due = good }
+    ∷ record { call = check (bookE 45); due = refused 13 }
+    -- 11
+    ∷ record { call = write bookA 3 (replicate 122 7); due = slice (recordA 3) }
+    ∷ record { call = write bookA 3 (replicate 121 7); due = refused 18 }
+    -- 12
+    ∷ record { call = accept (recordA 2); due = record-of 3 2 }
+    ∷ record { call = accept (recordA 1); due = refused 20 }
+    ∷ []
+
+pub yield : map (λ (t : Tour). answer (t .call)) tours ≡ map (λ (t : Tour). t .due) tours
+unfolding word scale horizon lineCount stageSize firstState stateCount stage togo actionCount left right branches lineAfter skip stateLine actionLine transitionAt readAction action options firstNo sizesAllowed mostActions countsAllowed everyAction branchesAllowed costAllowed nextsAllowed weightSum weightsAllowed largestCost costsBounded bookNumber isPolicy policies taken paths policyCost leastCostToGo comesBefore ranking rankingCosts listBytes recordBytes carriedLength carriedK carriedCount carriedBook listStart acceptNumber policyLine policyLines titleLine bookPage page valueNumber valueCost leastCost rankNumber rankCount rankCosts rankPlans writeNumber writeLength writeRecord acceptStates acceptCount
+yield = refl
