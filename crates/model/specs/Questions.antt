@@ -38,6 +38,10 @@ sizesAllowed ws =
     inside (pos 1) (pos 1) (word ws 3) && all (horizon ws) (λ (n : ℕ). inside (pos 1) (pos 16) (word ws (4 + n)))
     && leb (stateCount ws) 64
 
+-- "Is the length exactly 4 + H + S + 2L words?"
+unfoldable pub lengthAllowed : Words → Bool
+lengthAllowed ws = eqb (length ws) (4 + horizon ws + stateCount ws + 2 * lineCount ws)
+
 -- "1 to 8 choices a post"; "At stage H each post has one choice": the most actions that a state of stage n may have
 unfoldable pub mostActions : Words → ℕ → ℕ
 mostActions ws n = cond (eqb n (horizon ws)) 1 8
@@ -57,6 +61,10 @@ unfoldable pub branchesAllowed : Words → ℕ → ℕ → Bool
 branchesAllowed ws n j =
     cond (eqb n (horizon ws)) (inside (pos 0) (pos 0) (left ws j)) (inside (pos 1) (pos 16) (left ws j))
     && leb (lineAfter ws j) (lineCount ws)
+
+-- "and are exactly L lines used?"
+unfoldable pub linesAllowed : Words → Bool
+linesAllowed ws = everyAction branchesAllowed ws && eqb (stateLine ws (stateCount ws)) (lineCount ws)
 
 -- 10: "costs from -100,000 to 100,000"
 unfoldable pub costAllowed : Words → ℕ → ℕ → Bool
@@ -101,13 +109,13 @@ sizeQuestions =
     ∷ record { number = 4; asks = λ ws. inside (pos 1) (pos 2048) (word ws 2) }
     ∷ record { number = 5; asks = λ ws. leb (4 + horizon ws) (length ws) }
     ∷ record { number = 6; asks = sizesAllowed }
-    ∷ record { number = 7; asks = λ ws. eqb (length ws) (4 + horizon ws + stateCount ws + 2 * lineCount ws) }
-    ∷ record { number = 8; asks = countsAllowed }
+    ∷ record { number = 7; asks = lengthAllowed }
     ∷ []
 
-abbrev pub lineQuestions : List (Question Words)
-lineQuestions =
-    record { number = 9; asks = λ ws. everyAction branchesAllowed ws && eqb (stateLine ws (stateCount ws)) (lineCount ws) }
+abbrev pub actionQuestions : List (Question Words)
+actionQuestions =
+    record { number = 8; asks = countsAllowed }
+    ∷ record { number = 9; asks = linesAllowed }
     ∷ record { number = 10; asks = everyAction costAllowed }
     ∷ record { number = 11; asks = everyAction nextsAllowed }
     ∷ record { number = 12; asks = everyAction weightsAllowed }
@@ -115,7 +123,7 @@ lineQuestions =
     ∷ []
 
 abbrev pub bookQuestions : List (Question Words)
-bookQuestions = sizeQuestions ++ lineQuestions
+bookQuestions = sizeQuestions ++ actionQuestions
 
 -- checking a book: the number of its first "no", or 0
 unfoldable pub bookNumber : Words → ℕ

@@ -1,0 +1,99 @@
+// Reading the words of a book: single words, the sizes, and the stage of each state in order.
+ghost use mathlib.Core.Path.{_≡_};
+ghost use Prim.Native.Nat.{_+_, _<_, _≤_};
+ghost use lib.IntN.{natAbs};
+ghost use lib.ListN.{length};
+ghost use Rattle.model.specs.Model.{word, horizon, stateCount};
+ghost use Rattle.model.specs.Questions.{inside};
+ghost use Rattle.questions.specs.Sizes.{Sized};
+ghost use Rattle.book.specs.Read.{SizeIs, Headed, SizesAre, StageFor, StageNear};
+
+// The sizes that a book begins with: D, H, L and S of document 01.
+pub struct Sizes {
+    pub d: usize,
+    pub h: usize,
+    pub l: usize,
+    pub s: usize,
+}
+
+// A stage, and the number of the first state after it.
+pub struct Stage {
+    pub n: usize,
+    pub end: usize,
+}
+
+fn within(x: i32, lo: i32, hi: i32) -> bool
+    ensures { λ r. ⌜ r ≡ inside lo hi x ⌝ }
+{
+    lo <= x && x <= hi
+}
+
+// Is word i from lo to hi?
+pub fn word_in(b: &[i32], i: usize, lo: i32, hi: i32) -> bool
+    requires { ⌜ i < length (now b) ⌝ }
+    ensures { λ r. ⌜ r ≡ inside lo hi (word (now (b .entry)) i) ⌝ }
+{
+    let x = b[i];
+    within(x, lo, hi)
+}
+
+// A word without its sign. It is widened first: the lowest word has no positive counterpart of its own width.
+fn size(x: i32) -> usize
+    ensures { λ r. ⌜ (r ≡ natAbs x) × (r ≤ 2147483648) ⌝ }
+{
+    let y = x as i64;
+    if y < 0 { (0 - y) as usize } else { y as usize }
+}
+
+// Word i without its sign.
+pub fn size_at(b: &[i32], i: usize) -> usize
+    requires { ⌜ i < length (now b) ⌝ }
+    ensures { λ r. ⌜ SizeIs (word (now (b .entry)) i) r ⌝ }
+{
+    let x = b[i];
+    size(x)
+}
+
+// S, the number of states.
+fn states(b: &[i32], h: usize) -> usize
+    requires { ⌜ (h ≡ horizon (now b)) × (h ≤ 8) × (4 + h ≤ length (now b)) ⌝ }
+    ensures { λ r. ⌜ r ≡ stateCount (now (b .entry)) ⌝ }
+{
+    let mut s: usize = 0;
+    let mut n: usize = 0;
+    while n < h + 1 {
+        s = s + size_at(b, 3 + n);
+        n = n + 1;
+    }
+    s
+}
+
+// The sizes of a book that has its post counts.
+pub fn read_sizes(b: &[i32]) -> Sizes
+    requires { ⌜ Headed (now b) ⌝ }
+    ensures { λ r. ⌜ SizesAre (now (b .entry)) r ⌝ }
+{
+    let h = size_at(b, 1);
+    Sizes {
+        d: size_at(b, 0),
+        h: h,
+        l: size_at(b, 2),
+        s: states(b, h),
+    }
+}
+
+// The stage of state p, where t is that of the state before it or of p itself. Stages have states, so one step is enough.
+pub fn stage_for(b: &[i32], z: Sizes, t: Stage, p: usize) -> Stage
+    requires { ⌜ Sized (now b) × SizesAre (now b) z × StageNear (now b) p t × (p < stateCount (now b)) ⌝ }
+    ensures { λ r. ⌜ StageFor (now (b .entry)) p r ⌝ }
+{
+    let n = t.n;
+    let end = t.end;
+    if p == end {
+        return Stage {
+            n: n + 1,
+            end: end + size_at(b, 4 + n),
+        };
+    }
+    t
+}

@@ -1,0 +1,108 @@
+// The questions 1 to 8 of a book: its sizes and its counts.
+use book::Sizes;
+use book::Stage;
+ghost use mathlib.Core.Path.{_≡_};
+ghost use Prim.Native.Nat.{_+_, _<_, _≤_};
+ghost use lib.ListN.{length};
+ghost use Rattle.model.specs.Model.{word, horizon};
+ghost use Rattle.model.specs.Questions.{firstNo, sizesAllowed, lengthAllowed, countsAllowed, sizeQuestions};
+ghost use Rattle.questions.specs.Sizes.{Sized};
+ghost use Rattle.book.specs.Read.{Headed, SizesAre};
+ghost use Rattle.header.specs.Counts.{laterSizes, countAllowed};
+
+// 6, for the stages from 1 on: are there 1 to 16 states at each?
+fn later_sizes(b: &[i32], h: usize) -> bool
+    requires { ⌜ (h ≡ horizon (now b)) × (h ≤ 8) × (4 + h ≤ length (now b)) ⌝ }
+    ensures { λ r. ⌜ r ≡ laterSizes (now (b .entry)) ⌝ }
+{
+    let mut n: usize = 0;
+    while n < h {
+        if !book::word_in(b, 4 + n, 1, 16) {
+            return false;
+        }
+        n = n + 1;
+    }
+    true
+}
+
+// 6
+fn sizes_allowed(b: &[i32], z: Sizes) -> bool
+    requires { ⌜ Headed (now b) × SizesAre (now b) z ⌝ }
+    ensures { λ r. ⌜ r ≡ sizesAllowed (now (b .entry)) ⌝ }
+{
+    if !book::word_in(b, 3, 1, 1) {
+        return false;
+    }
+    if !later_sizes(b, z.h) {
+        return false;
+    }
+    z.s <= 64
+}
+
+// 7
+fn length_allowed(b: &[i32], z: Sizes) -> bool
+    requires { ⌜ Headed (now b) × SizesAre (now b) z × (z .s ≤ 64) × (z .l ≤ 2048) ⌝ }
+    ensures { λ r. ⌜ r ≡ lengthAllowed (now (b .entry)) ⌝ }
+{
+    b.len() == 4 + z.h + z.s + 2 * z.l
+}
+
+// The number of the first of the questions 1 to 7 that is answered no, or 0.
+pub fn size_number(b: &[i32]) -> u32
+    ensures { λ r. ⌜ r ≡ firstNo sizeQuestions (now (b .entry)) ⌝ }
+{
+    if b.len() < 3 {
+        return 1;
+    }
+    if !book::word_in(b, 0, 1, 100) {
+        return 2;
+    }
+    if !book::word_in(b, 1, 1, 8) {
+        return 3;
+    }
+    if !book::word_in(b, 2, 1, 2048) {
+        return 4;
+    }
+    let h = book::size_at(b, 1);
+    if b.len() < 4 + h {
+        return 5;
+    }
+    let z = book::read_sizes(b);
+    if !sizes_allowed(b, z) {
+        return 6;
+    }
+    if !length_allowed(b, z) {
+        return 7;
+    }
+    0
+}
+
+// 8, of one state of stage n, whose count is word i.
+fn count_allowed(b: &[i32], i: usize, n: usize, h: usize) -> bool
+    requires { ⌜ i < length (now b) ⌝ }
+    ensures { λ r. ⌜ r ≡ countAllowed (word (now (b .entry)) i) n h ⌝ }
+{
+    if n == h {
+        return book::word_in(b, i, 1, 1);
+    }
+    book::word_in(b, i, 1, 8)
+}
+
+// 8: are there 1 to 8 actions at each state, 1 at stage H?
+pub fn counts_allowed(b: &[i32], z: Sizes) -> bool
+    requires { ⌜ Sized (now b) × SizesAre (now b) z ⌝ }
+    ensures { λ r. ⌜ r ≡ countsAllowed (now (b .entry)) ⌝ }
+{
+    let h = z.h;
+    let s = z.s;
+    let mut t = Stage { n: 0, end: 1 };
+    let mut p: usize = 0;
+    while p < s {
+        t = book::stage_for(b, z, t, p);
+        if !count_allowed(b, 4 + h + p, t.n, h) {
+            return false;
+        }
+        p = p + 1;
+    }
+    true
+}

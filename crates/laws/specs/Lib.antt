@@ -1,0 +1,10 @@
+pub mod Int
+pub mod Members
+pub mod Sorting
+pub mod Paths
+pub mod Bounds
+pub mod Best
+pub mod Policies
+pub mod Greedy
+pub mod First
+pub mod Order

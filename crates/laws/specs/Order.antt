@@ -1,0 +1,165 @@
+-- The order of policies, by cost and then by bytes, is strict, and total on policies of one length. So the first K of the sorted policies hold a
+-- policy exactly when fewer than K policies come before it, at the place that says how many.
+-- Assumes nothing.
+use mathlib.Core.Path.{_≡_, refl, sym, ap₂, _∙_, subst}
+use mathlib.Core.Bool.{Bool, true, false, not, _||_, _&&_}
+use mathlib.Core.Logic.{_⊎_, inl, inr, _↔_}
+use mathlib.Core.List.{List, [], _∷_}
+use mathlib.Core.Option.{Option, some}
+use Prim.Native.Nat.{ℕ, zero, suc, _<_}
+use native.Mathlib.Omega.{arith}
+use native.Mathlib.Decide.{decLt}
+use lib.Dec.{T, not-T, eqb, eqb→eq, ltb, ltb→lt}
+use lib.ListN.{getElem?, take, length}
+use lib.IntN.{ℤ}
+use lib.Signed.{_≤ℤ_, _<ℤ_, leZ, leZ-yes, ltZ, ltZ-yes, ltZ-no, <ℤ-irrefl, clashℤ}
+use Rattle.model.specs.Lists.{count, sorted}
+use Rattle.model.specs.Model.{Action}
+use Rattle.model.specs.Policy.{Policy, policiesFrom}
+use Rattle.model.specs.Order.{lower, before}
+use Rattle.laws.specs.Int.{<→≤, ints, leZ-no, lt-in, le-in}
+use Rattle.laws.specs.Members.{T-true, true-T, false-T, In, Rising}
+use Rattle.laws.specs.Sorting.{Strict, Total, listed}
+use Rattle.laws.specs.Policies.{IsPolicy, in-policy, policy-in, policy-length, policies-apart}
+use Rattle.laws.specs.Greedy.{lower-head, lower-tail}
+
+-- ---- the order of the bytes
+
+-- what `lower` says
+abbrev pub Low : Policy → Policy → Type 0
+Low [] qs = ⊥
+Low (p ∷ ps) [] = ⊥
+Low (p ∷ ps) (q ∷ qs) = (p < q) ⊎ ((p ≡ q) × Low ps qs)
+
+pub lower-low : (ps qs : Policy) → T (lower ps qs) → Low ps qs
+lower-low [] qs t = t
+lower-low (p ∷ ps) [] t = t
+lower-low (p ∷ ps) (q ∷ qs) t = go (ltb p q) refl (eqb p q) refl t (lower-low ps qs)
+  where
+    go : (c : Bool) → ltb p q ≡ c → (d : Bool) → eqb p q ≡ d → T (c || (d && lower ps qs)) → (T (lower ps qs) → Low ps qs)
+        → Low (p ∷ ps) (q ∷ qs)
+    go true e d e′ t ih = inl (ltb→lt p q (true-T e))
+    go false e true e′ t ih = inr (eqb→eq p q (true-T e′), ih t)
+    go false e false e′ t ih = absurd t
+
+pub low-lower : (ps qs : Policy) → Low ps qs → T (lower ps qs)
+low-lower [] qs l = l
+low-lower (p ∷ ps) [] l = l
+low-lower (p ∷ ps) (q ∷ qs) (inl h) = lower-head p q ps qs h
+low-lower (p ∷ ps) (q ∷ qs) (inr l) = rw (l .0) (lower-tail q ps qs (low-lower ps qs (l .1)))
+
+low-irrefl : (ps : Policy) → Low ps ps → ⊥
+low-irrefl [] l = l
+low-irrefl (p ∷ ps) (inl h) = omega arith
+low-irrefl (p ∷ ps) (inr l) = low-irrefl ps (l .1)
+
+low-trans : (ps qs rs : Policy) → Low ps qs → Low qs rs → Low ps rs
+low-trans [] qs rs h k = h
+low-trans (p ∷ ps) [] rs h k = absurd h
+low-trans (p ∷ ps) (q ∷ qs) [] h k = k
+low-trans (p ∷ ps) (q ∷ qs) (r ∷ rs) (inl h) (inl k) = inl (omega arith)
+low-trans (p ∷ ps) (q ∷ qs) (r ∷ rs) (inl h) (inr k) = inl (omega arith)
+low-trans (p ∷ ps) (q ∷ qs) (r ∷ rs) (inr h) (inl k) = inl (omega arith)
+low-trans (p ∷ ps) (q ∷ qs) (r ∷ rs) (inr h) (inr k) = inr (h .0 ∙ k .0, low-trans ps qs rs (h .1) (k .1))
+
+-- two policies of one length that differ are in order one way or the other
+low-total : (ps qs : Policy) → length ps ≡ length qs → (ps ≡ qs) ⊎ (Low ps qs ⊎ Low qs ps)
+low-total [] [] e = inl refl
+low-total [] (q ∷ qs) e = absurd (omega arith)
+low-total (p ∷ ps) [] e = absurd (omega arith)
+low-total (p ∷ ps) (q ∷ qs) e = go (decLt p q) (decLt q p) (low-total ps qs (omega arith))
+  where
+    same : (p ≡ q) → (ps ≡ qs) ⊎ (Low ps qs ⊎ Low qs ps) → (_≡_ {A = Policy} (p ∷ ps) (q ∷ qs)) ⊎ (Low (p ∷ ps) (q ∷ qs) ⊎ Low (q ∷ qs) (p ∷ ps))
+    same e (inl i) = inl (ap₂ (λ (x : ℕ) (xs : Policy). x ∷ xs) e i)
+    same e (inr (inl i)) = inr (inl (inr (e, i)))
+    same e (inr (inr i)) = inr (inr (inr (sym e, i)))
+
+    go : Dec (p < q) → Dec (q < p) → (ps ≡ qs) ⊎ (Low ps qs ⊎ Low qs ps)
+        → (_≡_ {A = Policy} (p ∷ ps) (q ∷ qs)) ⊎ (Low (p ∷ ps) (q ∷ qs) ⊎ Low (q ∷ qs) (p ∷ ps))
+    go (yes h) d ih = inr (inl (inl h))
+    go (no h) (yes k) ih = inr (inr (inl k))
+    go (no h) (no k) ih = same (omega arith) ih
+
+-- ---- the order of policies
+
+module _ (cost : Policy → ℤ) where
+  -- what `before` says
+  abbrev pub Before : Policy → Policy → Type 0
+  Before x y = (cost x <ℤ cost y) ⊎ ((cost x ≤ℤ cost y) × Low x y)
+
+  pub says : (x y : Policy) → T (before cost x y) → Before x y
+  says x y t = go (ltZ (cost x) (cost y)) refl (ltZ (cost y) (cost x)) refl t
+    where
+      go : (c : Bool) → ltZ (cost x) (cost y) ≡ c → (d : Bool) → ltZ (cost y) (cost x) ≡ d → T (c || (not d && lower x y)) → Before x y
+      go true e d e′ t = inl (ltZ-yes (true-T e))
+      go false e true e′ t = absurd t
+      go false e false e′ t = inr (ltZ-no (false-T e′), lower-low x y t)
+
+  pub said : (x y : Policy) → Before x y → T (before cost x y)
+  said x y (inl h) = rw (T-true (ltZ (cost x) (cost y)) (h .lt)) tt
+  said x y (inr h) = go (ltZ (cost x) (cost y)) (ltZ (cost y) (cost x)) refl
+    where
+      go : (c d : Bool) → ltZ (cost y) (cost x) ≡ d → T (c || (not d && lower x y))
+      go true d e = tt
+      go false true e = clashℤ (ltZ-yes {a = cost y} {b = cost x} (true-T e)) (h .0)
+      go false false e = low-lower x y (h .1)
+
+  -- a policy that comes before another costs no more, so the costs of sorted policies never fall
+  pub before-cost : (x y : Policy) → T (before cost x y) → cost x ≤ℤ cost y
+  before-cost x y t = go (says x y t)
+    where
+      go : Before x y → cost x ≤ℤ cost y
+      go (inl h) = <→≤ h
+      go (inr h) = h .0
+
+  before-trans : (x y z : Policy) → Before x y → Before y z → Before x z
+  before-trans x y z (inl h) (inl k) = inl (omega (ints, lt-in))
+  before-trans x y z (inl h) (inr k) = inl (omega (ints, lt-in))
+  before-trans x y z (inr h) (inl k) = inl (omega (ints, lt-in))
+  before-trans x y z (inr h) (inr k) = inr (omega (ints, le-in), low-trans x y z (h .1) (k .1))
+
+  before-irrefl : (x : Policy) → Before x x → ⊥
+  before-irrefl x (inl h) = <ℤ-irrefl h
+  before-irrefl x (inr h) = low-irrefl x (h .1)
+
+  pub strict : Strict (before cost)
+  strict = record {
+    irrefl = λ x. off x (before cost x x) refl;
+    trans = λ x y z h k. said x z (before-trans x y z (says x y h) (says y z k));
+  }
+    where
+      off : (x : Policy) (t : Bool) → before cost x x ≡ t → before cost x x ≡ false
+      off x true e = absurd (before-irrefl x (says x x (true-T e)))
+      off x false e = e
+
+-- ---- the list
+
+module _ (act : ℕ → ℕ → Action) (opts : ℕ → List ℕ) (rising : (p : ℕ) → Rising (opts p)) (cost : Policy → ℤ) (S : ℕ) where
+  abbrev all : List Policy
+  all = policiesFrom act opts S 0 (0 ∷ [])
+
+  pub total : Total (before cost) (policiesFrom act opts S 0 (0 ∷ []))
+  total x y i j n e = go (low-total x y (size x i ∙ sym (size y j)))
+    where
+      size : (z : Policy) → In z all → length z ≡ S
+      size z k = policy-length act opts S 0 (0 ∷ []) z (in-policy act opts S 0 (0 ∷ []) z k)
+
+      not-before : Before cost x y → ⊥
+      not-before b = subst T e (said cost x y b)
+
+      go : (x ≡ y) ⊎ (Low x y ⊎ Low y x) → T (before cost y x)
+      go (inl q) = absurd (n q)
+      go (inr (inl l)) = said cost y x (inl (leZ-no (not-T (leZ (cost x) (cost y)) (λ h. not-before (inr (leZ-yes h, l))))))
+      go (inr (inr l)) = said cost y x (inr (ltZ-no (not-T (ltZ (cost x) (cost y)) (λ h. not-before (inl (ltZ-yes h)))), l))
+
+  -- entry j is x exactly if x is a policy, j policies come before it, and j is less than K
+  pub the-list : (K j : ℕ) (x : Policy)
+      → (getElem? (take K (sorted (before cost) (policiesFrom act opts S 0 (0 ∷ [])))) j ≡ some x)
+      ↔ (IsPolicy act opts S 0 (0 ∷ []) x × (count (λ y. before cost y x) (policiesFrom act opts S 0 (0 ∷ [])) ≡ j) × (j < K))
+  the-list K j x = (
+    λ e. let h = l .0 e in (in-policy act opts S 0 (0 ∷ []) x (h .0), h .1, h .2),
+    λ h. l .1 (policy-in act opts S 0 (0 ∷ []) x (h .0), h .1, h .2),
+  )
+    where
+      l : (getElem? (take K (sorted (before cost) all)) j ≡ some x) ↔ (In x all × (count (λ y. before cost y x) all ≡ j) × (j < K))
+      l = listed (before cost) (strict cost) K all (policies-apart act opts rising S 0 (0 ∷ [])) total j x

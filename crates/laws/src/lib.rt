@@ -1,0 +1,1 @@
+// Laws about policies, paths and rankings, over any actions and options.

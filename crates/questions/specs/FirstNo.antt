@@ -1,0 +1,60 @@
+-- The number of the first question that is answered no.
+-- Assumes nothing.
+use mathlib.Core.Path.{_≡_, refl, sym, ap, _∙_, subst}
+use mathlib.Core.Bool.{Bool, true, false, not}
+use mathlib.Core.List.{List, [], _∷_, _++_}
+use Prim.Native.Nat.{ℕ, zero, suc, _+_, _<_}
+use native.Mathlib.Omega.{arith}
+use Rattle.model.specs.Questions.{Question, firstNo, andThen}
+
+-- what goes with a "yes" and with a "no"
+abbrev pub answered : Bool → ℕ → ℕ → ℕ
+answered true n m = n
+answered false n m = m
+
+-- every question of a list is answered yes
+abbrev pub AllYes : {A : Type 0} → List (Question A) → A → Type 0
+AllYes [] x = Unit {0}
+AllYes (q ∷ qs) x = (q .asks x ≡ true) × AllYes qs x
+
+-- every question of a list has a number above 0
+abbrev pub Numbered : {A : Type 0} → List (Question A) → Type 0
+Numbered [] = Unit {0}
+Numbered (q ∷ qs) = (0 < q .number) × Numbered qs
+
+module _ {A : Type 0} (x : A) where
+  -- a question that is answered no gives its number
+  pub fails : (q : Question A) (qs : List (Question A)) → q .asks x ≡ false → firstNo (q ∷ qs) x ≡ q .number
+  unfolding firstNo
+  fails q qs e = rw e
+
+  -- one that is answered yes is passed over
+  pub passes : (q : Question A) (qs : List (Question A)) → q .asks x ≡ true → firstNo (q ∷ qs) x ≡ firstNo qs x
+  unfolding firstNo
+  passes q qs e = rw e
+
+  pub none : firstNo [] x ≡ 0
+  unfolding firstNo
+  none = refl
+
+  -- no "no": every answer is yes
+  pub passed : (qs : List (Question A)) → Numbered qs → firstNo qs x ≡ 0 → AllYes qs x
+  passed [] h e = tt
+  passed (q ∷ qs) h e = go (q .asks x) refl (passed qs (h .1))
+    where
+      go : (b : Bool) → q .asks x ≡ b → (firstNo qs x ≡ 0 → AllYes qs x) → (q .asks x ≡ true) × AllYes qs x
+      go true a ih = (a, ih (sym (passes q qs a) ∙ e))
+      go false a ih = absurd (omega (arith, h .0, fails q qs a))
+
+  -- one list of questions after another
+  pub after : (qs rs : List (Question A)) → Numbered qs → firstNo (qs ++ rs) x ≡ andThen (firstNo qs x) (firstNo rs x)
+  after [] rs h = rw none
+  after (q ∷ qs) rs h = go (q .asks x) refl (after qs rs (h .1))
+    where
+      big : (n : ℕ) → 0 < n → n ≡ andThen n (firstNo rs x)
+      big zero l = absurd (omega arith)
+      big (suc n) l = refl
+
+      go : (b : Bool) → q .asks x ≡ b → firstNo (qs ++ rs) x ≡ andThen (firstNo qs x) (firstNo rs x) → firstNo (q ∷ (qs ++ rs)) x ≡ andThen (firstNo (q ∷ qs) x) (firstNo rs x)
+      go true a ih = passes q (qs ++ rs) a ∙ ih ∙ ap (λ (n : ℕ). andThen n (firstNo rs x)) (sym (passes q qs a))
+      go false a ih = fails q (qs ++ rs) a ∙ big (q .number) (h .0) ∙ ap (λ (n : ℕ). andThen n (firstNo rs x)) (sym (fails q qs a))

@@ -1,0 +1,4 @@
+pub mod Ranges
+pub mod FirstNo
+pub mod Stages
+pub mod Sizes
