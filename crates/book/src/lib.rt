@@ -1,7 +1,8 @@
 // Reading the words of a book: single words, the sizes, and the stage of each state in order.
 ghost use mathlib.Core.Path.{_≡_};
 ghost use Prim.Native.Nat.{_+_, _<_, _≤_};
-ghost use lib.IntN.{natAbs};
+ghost use lib.IntN.{pos, natAbs};
+ghost use lib.Signed.{ltZ};
 ghost use lib.ListN.{length};
 ghost use Rattle.model.specs.Model.{word, horizon, stateCount};
 ghost use Rattle.model.specs.Questions.{inside};
@@ -52,6 +53,44 @@ pub fn size_at(b: &[i32], i: usize) -> usize
 {
     let x = b[i];
     size(x)
+}
+
+// Is word i above x?
+pub fn word_above(b: &[i32], i: usize, x: i32) -> bool
+    requires { ⌜ i < length (now b) ⌝ }
+    ensures { λ r. ⌜ r ≡ ltZ x (word (now (b .entry)) i) ⌝ }
+{
+    x < b[i]
+}
+
+// Is word i below word k?
+pub fn words_rise(b: &[i32], i: usize, k: usize) -> bool
+    requires { ⌜ (i < length (now b)) × (k < length (now b)) ⌝ }
+    ensures { λ r. ⌜ r ≡ ltZ (word (now (b .entry)) i) (word (now (b .entry)) k) ⌝ }
+{
+    b[i] < b[k]
+}
+
+// Is word i below n?
+pub fn word_below(b: &[i32], i: usize, n: usize) -> bool
+    requires { ⌜ i < length (now b) ⌝ }
+    ensures { λ r. ⌜ r ≡ ltZ (word (now (b .entry)) i) (pos n) ⌝ }
+{
+    if !word_above(b, i, -1) {
+        return true;
+    }
+    size_at(b, i) < n
+}
+
+// Is word i from 1 to n?
+pub fn word_to(b: &[i32], i: usize, n: usize) -> bool
+    requires { ⌜ i < length (now b) ⌝ }
+    ensures { λ r. ⌜ r ≡ inside (pos 1) (pos n) (word (now (b .entry)) i) ⌝ }
+{
+    if !word_above(b, i, 0) {
+        return false;
+    }
+    size_at(b, i) <= n
 }
 
 // S, the number of states.

@@ -1,14 +1,14 @@
 -- The least cost-to-go. Each state p has a list of the actions that a policy may take there, `opts p`: all of them; or one, where a policy's first
 -- actions are held; or all but some. What is proved here is proved for any such lists: the least cost-to-go is at most every policy's, and a policy
--- has it exactly when it takes a best action wherever it comes.
+-- has it exactly when it takes a best action at each state that it reaches.
 -- Assumes nothing.
-use mathlib.Core.Path.{_≡_, refl, sym}
+use mathlib.Core.Path.{_≡_, refl}
 use mathlib.Core.Bool.{Bool, true, false}
 use mathlib.Core.Logic.{_⊎_, inl, inr}
 use mathlib.Core.List.{List, [], _∷_}
 use Prim.Native.Nat.{ℕ, zero, suc, _^_, _≤_, _<_}
 use native.Mathlib.Omega.{arith}
-use lib.IntN.{ℤ, pos, _+ℤ_, _*ℤ_}
+use lib.IntN.{ℤ, pos, _*ℤ_}
 use lib.Signed.{_≤ℤ_, _<ℤ_, leZ, leZ-yes, ≤ℤ-refl, clashℤ}
 use Rattle.model.specs.Model.{Transition, Action}
 use Rattle.model.specs.Recursion.{expected, actionCost, costToGo, pick, firstLeast, bestOf, through, leastToGo}
@@ -106,13 +106,13 @@ module _ (v u : ℕ → ℤ) where
 
 -- ---- the least cost-to-go
 
-module _ (D : ℕ) (act : ℕ → ℕ → Action) (opts : ℕ → List ℕ) where
-  -- f takes an action of the lists wherever it comes
-  abbrev pub Obeys : (ℕ → ℕ) → ℕ → ℕ → Type 0
-  Obeys f zero p = In (f p) (opts p)
-  Obeys f (suc m) p = In (f p) (opts p) × AtNexts (Obeys f m) (act p (f p) .transitions)
+-- f takes an action of the lists at p and at every state reached from there, with m stages still to come
+abbrev pub Obeys : (ℕ → ℕ → Action) → (ℕ → List ℕ) → (ℕ → ℕ) → ℕ → ℕ → Type 0
+Obeys act opts f zero p = In (f p) (opts p)
+Obeys act opts f (suc m) p = In (f p) (opts p) × AtNexts (Obeys act opts f m) (act p (f p) .transitions)
 
-  -- f takes a best action wherever it comes
+module _ (D : ℕ) (act : ℕ → ℕ → Action) (opts : ℕ → List ℕ) where
+  -- f takes a best action at p and at every state reached from there, with m stages still to come
   abbrev pub Tight : (ℕ → ℕ) → ℕ → ℕ → Type 0
   Tight f zero p = through D act opts zero p (f p) ≤ℤ leastToGo D act opts zero p
   Tight f (suc m) p = (through D act opts (suc m) p (f p) ≤ℤ leastToGo D act opts (suc m) p) × AtNexts (Tight f m) (act p (f p) .transitions)
@@ -126,17 +126,20 @@ module _ (D : ℕ) (act : ℕ → ℕ → Action) (opts : ℕ → List ℕ) wher
     toGo = costToGo D (λ p. act p (f p))
 
     -- the least cost-to-go is at most that of f
-    pub least-below : (m p : ℕ) → Obeys f m p → leastToGo D act opts m p ≤ℤ costToGo D (λ p. act p (f p)) m p
+    pub least-below : (m p : ℕ) → Obeys act opts f m p → leastToGo D act opts m p ≤ℤ costToGo D (λ p. act p (f p)) m p
     least-below zero p h = best-le (through D act opts zero p) (opts p) h
     least-below (suc m) p h =
         ≤ℤ-trans (best-le (through D act opts (suc m) p) (opts p) (h .0))
         (action-mono (least m) (toGo m) D (suc m) (act p (f p)) (every-imp (λ t. least-below m (t .next)) (act p (f p) .transitions) (h .1)))
 
-    -- where f is no dearer than the least, it takes a best action wherever it comes: weights are at least 1
+    -- where f costs no more than the least, it takes a best action at every state reached: weights are at least 1
     pub tight : ((p c : ℕ) → Every (λ (t : Transition). 0 < t .weight) (act p c .transitions))
-        → (m p : ℕ) → Obeys f m p → costToGo D (λ p. act p (f p)) m p ≤ℤ leastToGo D act opts m p → Tight f m p
+        → (m p : ℕ) → Obeys act opts f m p → costToGo D (λ p. act p (f p)) m p ≤ℤ leastToGo D act opts m p → Tight f m p
     tight w zero p h k = k
-    tight w (suc m) p h k = (≤ℤ-trans (action-mono (least m) (toGo m) D (suc m) a under) k, every-both (λ t. tight w m (t .next)) (a .transitions) (h .1) equal)
+    tight w (suc m) p h k = (
+      ≤ℤ-trans (action-mono (least m) (toGo m) D (suc m) a under) k,
+      every-both (λ t. tight w m (t .next)) (a .transitions) (h .1) equal,
+    )
       where
         a : Action
         a = act p (f p)
@@ -149,7 +152,7 @@ module _ (D : ℕ) (act : ℕ → ℕ → Action) (opts : ℕ → List ℕ) wher
             action-tight (least m) (toGo m) D (suc m) a under (w p (f p))
             (≤ℤ-trans k (best-le (through D act opts (suc m) p) (opts p) (h .0)))
 
-    -- and where it takes a best action wherever it comes, it is no dearer than the least
+    -- and where it takes a best action at every state reached, it costs no more than the least
     pub tight-least : (m p : ℕ) → Tight f m p → costToGo D (λ p. act p (f p)) m p ≤ℤ leastToGo D act opts m p
     tight-least zero p h = h
     tight-least (suc m) p h =

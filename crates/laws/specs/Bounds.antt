@@ -1,7 +1,7 @@
 -- How large a cost-to-go can be: with costs of at most C without their sign and weights that add to at most D for each action, at most
 -- D^m × (m + 1) × C, where m stages are still to come.
 -- Assumes nothing.
-use mathlib.Core.Path.{_≡_, refl, sym}
+use mathlib.Core.Path.{_≡_}
 use mathlib.Core.List.{List, [], _∷_}
 use Prim.Native.Nat.{ℕ, zero, suc, _+_, _*_, _^_, _≤_}
 use native.Mathlib.Nat.{le-trans, add-le-add, mul-le-mul-left, mul-le-mul-right, pow-suc, pow-zero}

@@ -8,7 +8,7 @@ use mathlib.Core.Logic.{_⊎_, inl, inr}
 use mathlib.Core.List.{List, [], _∷_}
 use Prim.Native.Nat.{ℕ, zero, suc, _+_, _≤_, _<_}
 use native.Mathlib.Omega.{arith}
-use native.Mathlib.Nat.{eq-or-lt-of-le, add-zero, add-suc, suc-add}
+use native.Mathlib.Nat.{eq-or-lt-of-le}
 use lib.Dec.{T}
 use lib.IntN.{ℤ}
 use lib.Signed.{_≤ℤ_, ≤ℤ-refl}
@@ -16,13 +16,13 @@ use Rattle.model.specs.Lists.{isIn}
 use Rattle.model.specs.Model.{Transition, Action}
 use Rattle.model.specs.Policy.{Policy, nexts, allowed, onward}
 use Rattle.model.specs.Path.{byteAt}
-use Rattle.model.specs.Recursion.{costToGo, bestOf, through, leastToGo}
+use Rattle.model.specs.Recursion.{costToGo, through, leastToGo}
 use Rattle.model.specs.Order.{lower}
-use Rattle.laws.specs.Int.{≤ℤ-trans, ≤ℤ-antisym}
+use Rattle.laws.specs.Int.{≤ℤ-antisym}
 use Rattle.laws.specs.Members.{T-true, true-T, In, in-one, Every, in-++, every-both, isIn-in, in-isIn, Rising, AtNexts, at-nexts}
 use Rattle.laws.specs.Best.{best-in, Obeys, Tight, least-below, tight, tight-least}
 use Rattle.laws.specs.Policies.{IsPolicy, reachedFrom, reached-mono, reached-late, reached-closed, Reads, reads}
-use Rattle.laws.specs.Greedy.{byteOf, best, greedy, obeys, tights, lowest}
+use Rattle.laws.specs.Greedy.{byteOf, best, greedy, obeys-on, tight-on, lowest}
 
 -- what the actions of a model of S states are: each leads to later states of the model, which are one stage on; weights are at least 1; and byte 255
 -- stands for no action
@@ -34,13 +34,13 @@ pub record Shape (S : ℕ) (act : ℕ → ℕ → Action) (togo : ℕ → ℕ) :
   pub positive : (p c : ℕ) → Every (λ (t : Transition). 0 < t .weight) (act p c .transitions)
   pub bare : (p : ℕ) → act p 255 .transitions ≡ []
 
--- what lists of actions are: each rises; each state that is alive has one of its actions in its list, and each of those leads to states that are
--- alive. (Where every state has an action in its list, all are alive.)
+-- what lists of actions are: each rises; and `Alive` is a set of states that holds state 0, where each state of the set has an action in its list,
+-- and each such action leads to states of the set. (Where every state has an action in its list, that may be all states.)
 pub record Lists (Alive : ℕ → Type 0) (act : ℕ → ℕ → Action) (opts : ℕ → List ℕ) : Type 0 where
   pub rising : (p : ℕ) → Rising (opts p)
   pub first-alive : Alive 0
-  pub live : (p : ℕ) → Alive p → (c : ℕ) × In c (opts p)
-  pub goes : (p c : ℕ) → Alive p → In c (opts p) → AtNexts Alive (act p c .transitions)
+  pub some-action : (p : ℕ) → Alive p → (c : ℕ) × In c (opts p)
+  pub stays-alive : (p c : ℕ) → Alive p → In c (opts p) → AtNexts Alive (act p c .transitions)
 
 -- the cost-to-go of a policy from state 0
 abbrev pub costFrom0 : ℕ → (ℕ → ℕ → Action) → (ℕ → ℕ) → Policy → ℤ
@@ -50,9 +50,27 @@ costFrom0 D act togo bs = costToGo D (λ p. act p (byteAt bs p)) (togo 0) 0
 abbrev pub firstPolicy : ℕ → ℕ → (ℕ → ℕ → Action) → (ℕ → ℕ) → (ℕ → List ℕ) → Policy
 firstPolicy D S act togo opts = greedy D act opts togo S 0 (0 ∷ [])
 
-best-cases : (f : ℕ → ℤ) (xs : List ℕ) → In (bestOf f xs) xs ⊎ (bestOf f xs ≡ 255)
-best-cases f [] = inr refl
-best-cases f (x ∷ xs) = inl (best-in f (x ∷ xs) x (inl refl))
+-- ---- the states that a policy reaches
+
+module _ (S : ℕ) (act : ℕ → ℕ → Action) (togo : ℕ → ℕ) (sh : Shape S act togo) (opts : ℕ → List ℕ) where
+  -- of the S states
+  abbrev Reached : Policy → ℕ → Type 0
+  Reached bs q = In q (reachedFrom act 0 (0 ∷ []) bs) × (q < S)
+
+  module _ (bs : Policy) (is : IsPolicy act opts S 0 (0 ∷ []) bs) where
+    reached : Reached bs 0
+    reached = (reached-mono act 0 (0 ∷ []) bs 0 (inl refl), sh .some-state)
+
+    closed : (q : ℕ) → Reached bs q
+        → In (byteAt bs q) (opts q) × AtNexts (λ r. In r (reachedFrom act 0 (0 ∷ []) bs)) (act q (byteAt bs q) .transitions)
+    closed q r = reached-closed act opts (sh .later) (byteAt bs) S 0 (0 ∷ []) bs is (reads bs) q (r .0) (omega arith) (omega arith)
+
+    stays : (q : ℕ) → Reached bs q → AtNexts (Reached bs) (act q (byteAt bs q) .transitions)
+    stays q r = every-both (λ t i l. (i, l)) (act q (byteAt bs q) .transitions) (closed q r .1) (sh .inside q (byteAt bs q))
+
+    -- a policy of the lists obeys them from state 0 on
+    pub policy-obeys : (m : ℕ) → Obeys act opts (byteAt bs) m 0
+    policy-obeys m = obeys-on act opts (byteAt bs) (Reached bs) stays (λ q r. closed q r .0) m 0 reached
 
 module _ (D S : ℕ) (act : ℕ → ℕ → Action) (togo : ℕ → ℕ) (sh : Shape S act togo) (Alive : ℕ → Type 0) (opts : ℕ → List ℕ)
     (li : Lists Alive act opts) where
@@ -65,26 +83,16 @@ module _ (D S : ℕ) (act : ℕ → ℕ → Action) (togo : ℕ → ℕ) (sh : S
   abbrev after : ℕ → List ℕ → List ℕ
   after p reach = onward act p (byte p reach) reach
 
-  -- a byte of it is an action of the lists, or 255
-  pub byte-cases : (n p : ℕ) (reach : List ℕ) (i : ℕ)
-      → In (byteAt (greedy D act opts togo n p reach) i) (opts (p + i)) ⊎ (byteAt (greedy D act opts togo n p reach) i ≡ 255)
-  unfolding best
-  byte-cases zero p reach i = inr refl
-  byte-cases (suc n) p reach zero = go (isIn p reach)
-    where
-      go : (c : Bool) → In (byteOf c (best D act opts togo p)) (opts (p + 0)) ⊎ (byteOf c (best D act opts togo p) ≡ 255)
-      go true = rw (add-zero p) (best-cases (through D act opts (togo p) p) (opts p))
-      go false = inr refl
-  byte-cases (suc n) p reach (suc i) = rw (add-suc, ← suc-add) (byte-cases n (suc p) (after p reach) i)
-
   alive-best : (p : ℕ) → Alive p → In (best D act opts togo p) (opts p)
   unfolding best
-  alive-best p h = let c = li .live p h in best-in (through D act opts (togo p) p) (opts p) (c .0) (c .1)
+  alive-best p h = let c = li .some-action p h in best-in (through D act opts (togo p) p) (opts p) (c .0) (c .1)
 
   greedy-policy : (n p : ℕ) (reach : List ℕ) → ((q : ℕ) → In q reach → Alive q) → IsPolicy act opts n p reach (greedy D act opts togo n p reach)
   greedy-policy zero p reach h = tt
-  greedy-policy (suc n) p reach h =
-      (byte-in (isIn p reach) refl, greedy-policy n (suc p) (after p reach) (λ q i. split q (in-++ q (nexts (act p (byte p reach) .transitions)) reach i)))
+  greedy-policy (suc n) p reach h = (
+    byte-in (isIn p reach) refl,
+    greedy-policy n (suc p) (after p reach) (λ q i. split q (in-++ q (nexts (act p (byte p reach) .transitions)) reach i)),
+  )
     where
       alive : isIn p reach ≡ true → Alive p
       alive e = h p (isIn-in p reach (true-T e))
@@ -96,7 +104,7 @@ module _ (D S : ℕ) (act : ℕ → ℕ → Action) (togo : ℕ → ℕ) (sh : S
       fresh : (c : Bool) → isIn p reach ≡ c → (q : ℕ) → In q (nexts (act p (byte p reach) .transitions)) → Alive q
       fresh true e q i =
           at-nexts Alive (act p (best D act opts togo p) .transitions)
-          (li .goes p (best D act opts togo p) (alive e) (alive-best p (alive e))) q (rw e at i)
+          (li .stays-alive p (best D act opts togo p) (alive e) (alive-best p (alive e))) q (rw e at i)
       fresh false e q i = absurd (subst (λ (ts : List Transition). In q (nexts ts)) (sh .bare p) (rw e at i))
 
       split : (q : ℕ) → In q (nexts (act p (byte p reach) .transitions)) ⊎ In q reach → Alive q
@@ -105,27 +113,6 @@ module _ (D S : ℕ) (act : ℕ → ℕ → Action) (togo : ℕ → ℕ) (sh : S
 
   pub is-policy : IsPolicy act opts S 0 (0 ∷ []) (firstPolicy D S act togo opts)
   is-policy = greedy-policy S 0 (0 ∷ []) (λ q i. subst Alive (sym (in-one i)) (li .first-alive))
-
-  -- ---- the states that a policy reaches
-
-  -- of the S states
-  abbrev Reached : Policy → ℕ → Type 0
-  Reached bs q = In q (reachedFrom act 0 (0 ∷ []) bs) × (q < S)
-
-  module _ (bs : Policy) (pl : IsPolicy act opts S 0 (0 ∷ []) bs) where
-    reached : Reached bs 0
-    reached = (reached-mono act 0 (0 ∷ []) bs 0 (inl refl), sh .some-state)
-
-    closed : (q : ℕ) → Reached bs q
-        → In (byteAt bs q) (opts q) × AtNexts (λ r. In r (reachedFrom act 0 (0 ∷ []) bs)) (act q (byteAt bs q) .transitions)
-    closed q r = reached-closed act opts (sh .later) (byteAt bs) S 0 (0 ∷ []) bs pl (reads bs) q (r .0) (omega arith) (omega arith)
-
-    stays : (q : ℕ) → Reached bs q → AtNexts (Reached bs) (act q (byteAt bs q) .transitions)
-    stays q r = every-both (λ t i l. (i, l)) (act q (byteAt bs q) .transitions) (closed q r .1) (sh .inside q (byteAt bs q))
-
-    -- a policy of the lists takes one of their actions wherever it comes
-    pub policy-obeys : Obeys D act opts (byteAt bs) (togo 0) 0
-    policy-obeys = obeys D act opts (byteAt bs) (Reached bs) stays (λ q r. closed q r .0) (togo 0) 0 reached
 
   -- ---- it is the first
 
@@ -154,24 +141,27 @@ module _ (D S : ℕ) (act : ℕ → ℕ → Action) (togo : ℕ → ℕ) (sh : S
   G-tight : Tight D act opts (byteAt G) (togo 0) 0
   unfolding best
   G-tight =
-      tights D act opts (byteAt G) (Reached G) (stays G is-policy) togo (sh .step)
+      tight-on act opts (byteAt G) (Reached S act togo sh opts G) (stays S act togo sh opts G is-policy) D togo (sh .step)
       (λ q r. rw (greedy-best (byteAt G) S 0 (0 ∷ []) (reads G) q (r .0) (omega arith) (omega arith)) (≤ℤ-refl (leastToGo D act opts (togo q) q)))
-      (togo 0) 0 refl (reached G is-policy)
+      (togo 0) 0 refl (reached S act togo sh opts G is-policy)
 
   -- its cost is the least cost-to-go
   pub first-cost : costFrom0 D act togo (firstPolicy D S act togo opts) ≡ leastToGo D act opts (togo 0) 0
-  first-cost = ≤ℤ-antisym (tight-least D act opts (byteAt G) (togo 0) 0 G-tight) (least-below D act opts (byteAt G) (togo 0) 0 (policy-obeys G is-policy))
+  first-cost =
+      ≤ℤ-antisym (tight-least D act opts (byteAt G) (togo 0) 0 G-tight)
+      (least-below D act opts (byteAt G) (togo 0) 0 (policy-obeys S act togo sh opts G is-policy (togo 0)))
 
   -- no policy is cheaper
   pub cheapest : (bs : Policy) → IsPolicy act opts S 0 (0 ∷ []) bs → costFrom0 D act togo (firstPolicy D S act togo opts) ≤ℤ costFrom0 D act togo bs
-  cheapest bs pl = rw first-cost (least-below D act opts (byteAt bs) (togo 0) 0 (policy-obeys bs pl))
+  cheapest bs is = rw first-cost (least-below D act opts (byteAt bs) (togo 0) 0 (policy-obeys S act togo sh opts bs is (togo 0)))
 
   -- and none that is as cheap has lower bytes
-  pub comes-first : (bs : Policy) → IsPolicy act opts S 0 (0 ∷ []) bs → costFrom0 D act togo bs ≤ℤ costFrom0 D act togo (firstPolicy D S act togo opts)
+  pub comes-first : (bs : Policy) → IsPolicy act opts S 0 (0 ∷ []) bs
+      → costFrom0 D act togo bs ≤ℤ costFrom0 D act togo (firstPolicy D S act togo opts)
       → (firstPolicy D S act togo opts ≡ bs) ⊎ T (lower (firstPolicy D S act togo opts) bs)
-  comes-first bs pl h =
-      lowest D act opts togo (sh .step) (li .rising) (sh .bare) (byteAt bs) S 0 (0 ∷ []) bs pl (reads bs)
+  comes-first bs is h =
+      lowest D act opts togo (sh .step) (li .rising) (sh .bare) (byteAt bs) S 0 (0 ∷ []) bs is (reads bs)
       (λ q i. subst (λ z. Tight D act opts (byteAt bs) (togo z) z) (sym (in-one i)) bs-tight)
     where
       bs-tight : Tight D act opts (byteAt bs) (togo 0) 0
-      bs-tight = tight D act opts (byteAt bs) (sh .positive) (togo 0) 0 (policy-obeys bs pl) (rw first-cost at h)
+      bs-tight = tight D act opts (byteAt bs) (sh .positive) (togo 0) 0 (policy-obeys S act togo sh opts bs is (togo 0)) (rw first-cost at h)

@@ -1,53 +1,44 @@
 -- The policy that takes the lowest best action at each state that it reaches is no higher, in the order of the bytes, than any policy of the same
--- lists that takes a best action wherever it comes.
+-- lists that takes a best action at each state that it reaches.
 -- Assumes nothing.
-use mathlib.Core.Path.{_≡_, refl, sym, ap, _∙_, subst}
-use mathlib.Core.Bool.{Bool, true, false, _||_, _&&_}
+use mathlib.Core.Path.{_≡_, refl, ap, _∙_, subst}
+use mathlib.Core.Bool.{Bool, true, false}
 use mathlib.Core.Logic.{_⊎_, inl, inr}
 use mathlib.Core.List.{List, [], _∷_}
-use Prim.Native.Nat.{ℕ, zero, suc, _≤_, _<_}
+use Prim.Native.Nat.{ℕ, zero, suc, _+_, _≤_, _<_}
 use native.Mathlib.Omega.{arith}
-use native.Mathlib.Nat.{eq-or-lt-of-le}
-use lib.Dec.{T, eqb, eqb-refl, ltb, lt→ltb}
+use native.Mathlib.Nat.{eq-or-lt-of-le, add-zero, add-suc, suc-add}
+use lib.Dec.{T}
+use lib.IntN.{ℤ}
 use lib.Signed.{_≤ℤ_}
 use Rattle.model.specs.Lists.{isIn}
 use Rattle.model.specs.Model.{Transition, Action}
 use Rattle.model.specs.Policy.{Policy, nexts, onward}
+use Rattle.model.specs.Path.{byteAt}
 use Rattle.model.specs.Recursion.{bestOf, through, leastToGo}
 use Rattle.model.specs.Order.{lower}
-use Rattle.laws.specs.Members.{T-true, true-T, In, in-one, in-++, every-imp, every-both, isIn-in, Rising, AtNexts, at-nexts}
-use Rattle.laws.specs.Best.{best-low, Obeys, Tight}
+use Rattle.laws.specs.Members.{true-T, In, in-one, in-++, every-imp, every-both, isIn-in, Rising, AtNexts, at-nexts}
+use Rattle.laws.specs.Best.{best-in, best-low, Obeys, Tight}
 use Rattle.laws.specs.Policies.{IsPolicy, Reads}
-
--- ---- the order of the bytes
-
-pub lower-head : (a b : ℕ) (ps qs : Policy) → a < b → T (lower (a ∷ ps) (b ∷ qs))
-lower-head a b ps qs h = rw (T-true (ltb a b) (lt→ltb a b h)) tt
-
-pub lower-tail : (a : ℕ) (ps qs : Policy) → T (lower ps qs) → T (lower (a ∷ ps) (a ∷ qs))
-lower-tail a ps qs h = go (ltb a a)
-  where
-    go : (c : Bool) → T (c || (eqb a a && lower ps qs))
-    go true = tt
-    go false = rw (T-true (eqb a a) (eqb-refl a)) h
+use Rattle.laws.specs.Order.{lower-is}
 
 -- ---- sets of states that a policy does not leave
 
-module _ (D : ℕ) (act : ℕ → ℕ → Action) (opts : ℕ → List ℕ) (f : ℕ → ℕ) (R : ℕ → Type 0)
+module _ (act : ℕ → ℕ → Action) (opts : ℕ → List ℕ) (f : ℕ → ℕ) (R : ℕ → Type 0)
     (stays : (q : ℕ) → R q → AtNexts R (act q (f q) .transitions)) where
-  -- with an action of the lists at each state of the set, f takes one wherever it comes
-  pub obeys : ((q : ℕ) → R q → In (f q) (opts q)) → (m q : ℕ) → R q → Obeys D act opts f m q
-  obeys g zero q r = g q r
-  obeys g (suc m) q r = (g q r, every-imp (λ t. obeys g m (t .next)) (act q (f q) .transitions) (stays q r))
+  -- where f takes an action of the lists at each state of the set, it obeys them at every state reached from each
+  pub obeys-on : ((q : ℕ) → R q → In (f q) (opts q)) → (m q : ℕ) → R q → Obeys act opts f m q
+  obeys-on g zero q r = g q r
+  obeys-on g (suc m) q r = (g q r, every-imp (λ t. obeys-on g m (t .next)) (act q (f q) .transitions) (stays q r))
 
-  -- and with a best action at each state of the set, f takes a best action wherever it comes
-  pub tights : (togo : ℕ → ℕ) → ((p c : ℕ) → AtNexts (λ q. togo p ≡ suc (togo q)) (act p c .transitions))
+  -- and where it takes a best action at each, it does at every state reached from each
+  pub tight-on : (D : ℕ) (togo : ℕ → ℕ) → ((p c : ℕ) → AtNexts (λ q. togo p ≡ suc (togo q)) (act p c .transitions))
       → ((q : ℕ) → R q → through D act opts (togo q) q (f q) ≤ℤ leastToGo D act opts (togo q) q)
       → (m q : ℕ) → togo q ≡ m → R q → Tight D act opts f m q
-  tights togo step g zero q e r = subst (λ (m : ℕ). through D act opts m q (f q) ≤ℤ leastToGo D act opts m q) e (g q r)
-  tights togo step g (suc m) q e r = (
+  tight-on D togo step g zero q e r = subst (λ (m : ℕ). through D act opts m q (f q) ≤ℤ leastToGo D act opts m q) e (g q r)
+  tight-on D togo step g (suc m) q e r = (
     subst (λ (m : ℕ). through D act opts m q (f q) ≤ℤ leastToGo D act opts m q) e (g q r),
-    every-both (λ t r s. tights togo step g m (t .next) (omega arith) r) (act q (f q) .transitions) (stays q r) (step q (f q)),
+    every-both (λ t r s. tight-on D togo step g m (t .next) (omega arith) r) (act q (f q) .transitions) (stays q r) (step q (f q)),
   )
 
 -- ---- the policy
@@ -56,6 +47,10 @@ module _ (D : ℕ) (act : ℕ → ℕ → Action) (opts : ℕ → List ℕ) (f :
 abbrev pub byteOf : Bool → ℕ → ℕ
 byteOf true b = b
 byteOf false b = 255
+
+best-cases : (f : ℕ → ℤ) (xs : List ℕ) → In (bestOf f xs) xs ⊎ (bestOf f xs ≡ 255)
+best-cases f [] = inr refl
+best-cases f (x ∷ xs) = inl (best-in f (x ∷ xs) x (inl refl))
 
 module _ (D : ℕ) (act : ℕ → ℕ → Action) (opts : ℕ → List ℕ) (togo : ℕ → ℕ) where
   -- the lowest best action of state p
@@ -68,9 +63,22 @@ module _ (D : ℕ) (act : ℕ → ℕ → Action) (opts : ℕ → List ℕ) (tog
   greedy (suc n) p reach =
       byteOf (isIn p reach) (best p) ∷ greedy n (suc p) (onward act p (byteOf (isIn p reach) (best p)) reach)
 
+  -- each of its bytes is an action of the lists, or 255
+  pub byte-cases : (n p : ℕ) (reach : List ℕ) (i : ℕ)
+      → In (byteAt (greedy n p reach) i) (opts (p + i)) ⊎ (byteAt (greedy n p reach) i ≡ 255)
+  unfolding best
+  byte-cases zero p reach i = inr refl
+  byte-cases (suc n) p reach zero = go (isIn p reach)
+    where
+      go : (c : Bool) → In (byteOf c (best p)) (opts (p + 0)) ⊎ (byteOf c (best p) ≡ 255)
+      go true = rw (add-zero p) (best-cases (through D act opts (togo p) p) (opts p))
+      go false = inr refl
+  byte-cases (suc n) p reach (suc i) =
+      rw (add-suc, ← suc-add) (byte-cases n (suc p) (onward act p (byteOf (isIn p reach) (best p)) reach) i)
+
   module _ (step : (p c : ℕ) → AtNexts (λ q. togo p ≡ suc (togo q)) (act p c .transitions)) (rising : (p : ℕ) → Rising (opts p))
       (bare : (p : ℕ) → act p 255 .transitions ≡ []) where
-    -- f takes a best action at p and wherever it comes from there
+    -- f takes a best action at p and at every state reached from there
     abbrev TightAt : (ℕ → ℕ) → ℕ → Type 0
     TightAt f p = Tight D act opts f (togo p) p
 
@@ -81,10 +89,14 @@ module _ (D : ℕ) (act : ℕ → ℕ → Action) (opts : ℕ → List ℕ) (tog
     tight-next : (f : ℕ → ℕ) (p : ℕ) → TightAt f p → AtNexts (TightAt f) (act p (f p) .transitions)
     tight-next f p h = go (togo p) refl h
       where
+        one-on : (q m : ℕ) → m ≡ togo q → Tight D act opts f m q → TightAt f q
+        one-on q m e k = subst (λ (i : ℕ). Tight D act opts f i q) e k
+
         go : (m : ℕ) → togo p ≡ m → Tight D act opts f m p → AtNexts (TightAt f) (act p (f p) .transitions)
         go zero e h = every-imp (λ t s. absurd (omega arith)) (act p (f p) .transitions) (step p (f p))
-        go (suc m) e h = every-both (λ t s k. let eq : m ≡ togo (t .next) = omega arith in subst (λ (i : ℕ). Tight D act opts f i (t .next)) eq k) (act p (f p) .transitions) (step p (f p)) (h .1)
+        go (suc m) e h = every-both (λ t s k. one-on (t .next) m (omega arith) k) (act p (f p) .transitions) (step p (f p)) (h .1)
 
+    -- a policy that takes a best action at each state that it reaches is that policy, or has higher bytes
     pub lowest : (f : ℕ → ℕ) (n p : ℕ) (reach : List ℕ) (bs : Policy) → IsPolicy act opts n p reach bs → Reads f p bs
         → ((q : ℕ) → In q reach → Tight D act opts f (togo q) q) → (greedy n p reach ≡ bs) ⊎ T (lower (greedy n p reach) bs)
     unfolding best
@@ -123,5 +135,5 @@ module _ (D : ℕ) (act : ℕ → ℕ → Action) (opts : ℕ → List ℕ) (tog
         join : (g : ℕ) → (g ≡ b) ⊎ (g < b) → (greedy n (suc p) (onward act p b reach) ≡ bs) ⊎ T (lower (greedy n (suc p) (onward act p b reach)) bs)
             → (from g ≡ b ∷ bs) ⊎ T (lower (from g) (b ∷ bs))
         join g (inl e) (inl i) = inl (rw (e, i))
-        join g (inl e) (inr i) = inr (rw e (lower-tail b (greedy n (suc p) (onward act p b reach)) bs i))
-        join g (inr k) ih = inr (lower-head g b (greedy n (suc p) (onward act p g reach)) bs k)
+        join g (inl e) (inr i) = inr (rw e (lower-is (from b) (b ∷ bs) .1 (inr (refl, lower-is (greedy n (suc p) (onward act p b reach)) bs .0 i))))
+        join g (inr k) ih = inr (lower-is (from g) (b ∷ bs) .1 (inl k))

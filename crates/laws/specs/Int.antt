@@ -10,7 +10,7 @@ use native.Mathlib.Nat.{zero-add, le-refl, mul-le-mul-left, le-of-mul-le-mul-lef
 use native.Mathlib.Decide.{decLt}
 use native.Mathlib.Omega.{arith}
 use lib.Arith.{le→nltb}
-use lib.Dec.{T, ltb, leb, ltb→lt, lt→ltb, nleb→lt, le→leb, leb→le}
+use lib.Dec.{T, ltb, ltb→lt, lt→ltb, nleb→lt, le→leb, leb→le}
 use lib.IntN.{ℤ, pos, negsuc, natAbs, negℤ, subℕ, _+ℤ_, _*ℤ_}
 use lib.Signed.{_≤ℤ_, _<ℤ_, leZ, ltZ}
 

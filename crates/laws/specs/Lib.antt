@@ -5,6 +5,6 @@ pub mod Paths
 pub mod Bounds
 pub mod Best
 pub mod Policies
+pub mod Order
 pub mod Greedy
 pub mod First
-pub mod Order

@@ -54,6 +54,7 @@ module _ {A : Type 0} where
   Every P [] = Unit {0}
   Every P (x ∷ xs) = P x × Every P xs
 
+  -- what holds for every element holds for each, and the other way round
   pub every-in : (P : A → Type 0) (xs : List A) → Every P xs → (x : A) → In x xs → P x
   every-in P [] h x i = absurd i
   every-in P (y ∷ ys) h x (inl e) = subst P (sym e) (h .0)
@@ -63,6 +64,7 @@ module _ {A : Type 0} where
   in-every P [] h = tt
   in-every P (x ∷ xs) h = (h x (inl refl), in-every P xs (λ y i. h y (inr i)))
 
+  -- what follows from one property, or from two, of each element
   pub every-imp : {P Q : A → Type 0} → ((x : A) → P x → Q x) → (xs : List A) → Every P xs → Every Q xs
   every-imp f [] h = tt
   every-imp f (x ∷ xs) h = (f x (h .0), every-imp f xs (h .1))
@@ -75,6 +77,7 @@ module _ {A : Type 0} where
   in-one (inl e) = e
   in-one (inr i) = absurd i
 
+  -- an element of two lists joined is one of either
   pub in-++ : (x : A) (xs ys : List A) → In x (xs ++ ys) → In x xs ⊎ In x ys
   in-++ x [] ys i = inr i
   in-++ x (z ∷ zs) ys (inl e) = inl (inl e)
@@ -92,6 +95,7 @@ module _ {A : Type 0} where
   ++-in x (z ∷ zs) ys (inr i) = inr (++-in x zs ys (inr i))
 
 module _ {A B : Type 0} where
+  -- an element of the lists that f gives is one of the list that f gives for some x
   pub in-forEach : (f : A → List B) (y : B) (xs : List A) → In y (forEach f xs) → (x : A) × In x xs × In y (f x)
   in-forEach f y [] i = absurd i
   in-forEach f y (x ∷ xs) i = go (in-++ y (f x) (forEach f xs) i) (in-forEach f y xs)
@@ -105,6 +109,7 @@ module _ {A B : Type 0} where
   forEach-in f y (z ∷ zs) x (inl e) j = ++-in y (f z) (forEach f zs) (inl (subst (λ w. In y (f w)) e j))
   forEach-in f y (z ∷ zs) x (inr i) j = ++-in y (f z) (forEach f zs) (inr (forEach-in f y zs x i j))
 
+  -- an element of the list that f maps to is f of an element
   pub in-map : (f : A → B) (y : B) (xs : List A) → In y (map f xs) → (x : A) × (y ≡ f x) × In x xs
   in-map f y [] i = absurd i
   in-map f y (x ∷ xs) (inl e) = (x, e, inl refl)
@@ -191,6 +196,7 @@ upFrom-rising i (suc n) =
 abbrev pub AtNexts : (ℕ → Type 0) → List Transition → Type 0
 AtNexts P ts = Every (λ (t : Transition). P (t .next)) ts
 
+-- the same by the list of next states
 pub at-nexts : (P : ℕ → Type 0) (ts : List Transition) → AtNexts P ts → (q : ℕ) → In q (nexts ts) → P q
 at-nexts P ts h q i =
     let t = in-map (λ (t : Transition). t .next) q ts i in

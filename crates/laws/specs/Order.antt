@@ -5,11 +5,11 @@ use mathlib.Core.Path.{_≡_, refl, sym, ap₂, _∙_, subst}
 use mathlib.Core.Bool.{Bool, true, false, not, _||_, _&&_}
 use mathlib.Core.Logic.{_⊎_, inl, inr, _↔_}
 use mathlib.Core.List.{List, [], _∷_}
-use mathlib.Core.Option.{Option, some}
-use Prim.Native.Nat.{ℕ, zero, suc, _<_}
+use mathlib.Core.Option.{some}
+use Prim.Native.Nat.{ℕ, _<_}
 use native.Mathlib.Omega.{arith}
 use native.Mathlib.Decide.{decLt}
-use lib.Dec.{T, not-T, eqb, eqb→eq, ltb, ltb→lt}
+use lib.Dec.{T, not-T, eqb, eqb→eq, eqb-refl, ltb, ltb→lt, lt→ltb}
 use lib.ListN.{getElem?, take, length}
 use lib.IntN.{ℤ}
 use lib.Signed.{_≤ℤ_, _<ℤ_, leZ, leZ-yes, ltZ, ltZ-yes, ltZ-no, <ℤ-irrefl, clashℤ}
@@ -18,10 +18,9 @@ use Rattle.model.specs.Model.{Action}
 use Rattle.model.specs.Policy.{Policy, policiesFrom}
 use Rattle.model.specs.Order.{lower, before}
 use Rattle.laws.specs.Int.{<→≤, ints, leZ-no, lt-in, le-in}
-use Rattle.laws.specs.Members.{T-true, true-T, false-T, In, Rising}
-use Rattle.laws.specs.Sorting.{Strict, Total, listed}
+use Rattle.laws.specs.Members.{T-true, true-T, false-T, In, Apart, Rising}
+use Rattle.laws.specs.Sorting.{Strict, Total, listed, listed-after}
 use Rattle.laws.specs.Policies.{IsPolicy, in-policy, policy-in, policy-length, policies-apart}
-use Rattle.laws.specs.Greedy.{lower-head, lower-tail}
 
 -- ---- the order of the bytes
 
@@ -31,22 +30,24 @@ Low [] qs = ⊥
 Low (p ∷ ps) [] = ⊥
 Low (p ∷ ps) (q ∷ qs) = (p < q) ⊎ ((p ≡ q) × Low ps qs)
 
-pub lower-low : (ps qs : Policy) → T (lower ps qs) → Low ps qs
-lower-low [] qs t = t
-lower-low (p ∷ ps) [] t = t
-lower-low (p ∷ ps) (q ∷ qs) t = go (ltb p q) refl (eqb p q) refl t (lower-low ps qs)
+pub lower-is : (ps qs : Policy) → T (lower ps qs) ↔ Low ps qs
+lower-is [] qs = (λ t. t, λ l. l)
+lower-is (p ∷ ps) [] = (λ t. t, λ l. l)
+lower-is (p ∷ ps) (q ∷ qs) = let ih = lower-is ps qs in (λ t. to (ltb p q) refl (eqb p q) refl t (ih .0), λ l. from l (ih .1))
   where
-    go : (c : Bool) → ltb p q ≡ c → (d : Bool) → eqb p q ≡ d → T (c || (d && lower ps qs)) → (T (lower ps qs) → Low ps qs)
+    to : (c : Bool) → ltb p q ≡ c → (d : Bool) → eqb p q ≡ d → T (c || (d && lower ps qs)) → (T (lower ps qs) → Low ps qs)
         → Low (p ∷ ps) (q ∷ qs)
-    go true e d e′ t ih = inl (ltb→lt p q (true-T e))
-    go false e true e′ t ih = inr (eqb→eq p q (true-T e′), ih t)
-    go false e false e′ t ih = absurd t
+    to true e d e′ t ih = inl (ltb→lt p q (true-T e))
+    to false e true e′ t ih = inr (eqb→eq p q (true-T e′), ih t)
+    to false e false e′ t ih = absurd t
 
-pub low-lower : (ps qs : Policy) → Low ps qs → T (lower ps qs)
-low-lower [] qs l = l
-low-lower (p ∷ ps) [] l = l
-low-lower (p ∷ ps) (q ∷ qs) (inl h) = lower-head p q ps qs h
-low-lower (p ∷ ps) (q ∷ qs) (inr l) = rw (l .0) (lower-tail q ps qs (low-lower ps qs (l .1)))
+    equal : (c : Bool) → p ≡ q → T (lower ps qs) → T (c || (eqb p q && lower ps qs))
+    equal true e t = tt
+    equal false e t = rw (e, T-true (eqb q q) (eqb-refl q)) t
+
+    from : Low (p ∷ ps) (q ∷ qs) → (Low ps qs → T (lower ps qs)) → T (lower (p ∷ ps) (q ∷ qs))
+    from (inl h) ih = rw (T-true (ltb p q) (lt→ltb p q h)) tt
+    from (inr l) ih = equal (ltb p q) (l .0) (ih (l .1))
 
 low-irrefl : (ps : Policy) → Low ps ps → ⊥
 low-irrefl [] l = l
@@ -87,26 +88,26 @@ module _ (cost : Policy → ℤ) where
   abbrev pub Before : Policy → Policy → Type 0
   Before x y = (cost x <ℤ cost y) ⊎ ((cost x ≤ℤ cost y) × Low x y)
 
-  pub says : (x y : Policy) → T (before cost x y) → Before x y
-  says x y t = go (ltZ (cost x) (cost y)) refl (ltZ (cost y) (cost x)) refl t
+  pub before-is : (x y : Policy) → T (before cost x y) ↔ Before x y
+  before-is x y = (to (ltZ (cost x) (cost y)) refl (ltZ (cost y) (cost x)) refl, from)
     where
-      go : (c : Bool) → ltZ (cost x) (cost y) ≡ c → (d : Bool) → ltZ (cost y) (cost x) ≡ d → T (c || (not d && lower x y)) → Before x y
-      go true e d e′ t = inl (ltZ-yes (true-T e))
-      go false e true e′ t = absurd t
-      go false e false e′ t = inr (ltZ-no (false-T e′), lower-low x y t)
+      to : (c : Bool) → ltZ (cost x) (cost y) ≡ c → (d : Bool) → ltZ (cost y) (cost x) ≡ d → T (c || (not d && lower x y)) → Before x y
+      to true e d e′ t = inl (ltZ-yes (true-T e))
+      to false e true e′ t = absurd t
+      to false e false e′ t = inr (ltZ-no (false-T e′), lower-is x y .0 t)
 
-  pub said : (x y : Policy) → Before x y → T (before cost x y)
-  said x y (inl h) = rw (T-true (ltZ (cost x) (cost y)) (h .lt)) tt
-  said x y (inr h) = go (ltZ (cost x) (cost y)) (ltZ (cost y) (cost x)) refl
-    where
-      go : (c d : Bool) → ltZ (cost y) (cost x) ≡ d → T (c || (not d && lower x y))
-      go true d e = tt
-      go false true e = clashℤ (ltZ-yes {a = cost y} {b = cost x} (true-T e)) (h .0)
-      go false false e = low-lower x y (h .1)
+      equal : (c d : Bool) → ltZ (cost y) (cost x) ≡ d → cost x ≤ℤ cost y → Low x y → T (c || (not d && lower x y))
+      equal true d e h l = tt
+      equal false true e h l = clashℤ (ltZ-yes {a = cost y} {b = cost x} (true-T e)) h
+      equal false false e h l = lower-is x y .1 l
 
-  -- a policy that comes before another costs no more, so the costs of sorted policies never fall
+      from : Before x y → T (before cost x y)
+      from (inl h) = rw (T-true (ltZ (cost x) (cost y)) (h .lt)) tt
+      from (inr h) = equal (ltZ (cost x) (cost y)) (ltZ (cost y) (cost x)) refl (h .0) (h .1)
+
+  -- a policy that comes before another costs no more
   pub before-cost : (x y : Policy) → T (before cost x y) → cost x ≤ℤ cost y
-  before-cost x y t = go (says x y t)
+  before-cost x y t = go (before-is x y .0 t)
     where
       go : Before x y → cost x ≤ℤ cost y
       go (inl h) = <→≤ h
@@ -122,44 +123,57 @@ module _ (cost : Policy → ℤ) where
   before-irrefl x (inl h) = <ℤ-irrefl h
   before-irrefl x (inr h) = low-irrefl x (h .1)
 
+  -- no policy comes before itself, and one before another is before all that follow that
   pub strict : Strict (before cost)
   strict = record {
     irrefl = λ x. off x (before cost x x) refl;
-    trans = λ x y z h k. said x z (before-trans x y z (says x y h) (says y z k));
+    trans = λ x y z h k. before-is x z .1 (before-trans x y z (before-is x y .0 h) (before-is y z .0 k));
   }
     where
       off : (x : Policy) (t : Bool) → before cost x x ≡ t → before cost x x ≡ false
-      off x true e = absurd (before-irrefl x (says x x (true-T e)))
+      off x true e = absurd (before-irrefl x (before-is x x .0 (true-T e)))
       off x false e = e
 
--- ---- the list
+-- ---- the policies in order
 
-module _ (act : ℕ → ℕ → Action) (opts : ℕ → List ℕ) (rising : (p : ℕ) → Rising (opts p)) (cost : Policy → ℤ) (S : ℕ) where
-  abbrev all : List Policy
-  all = policiesFrom act opts S 0 (0 ∷ [])
-
-  pub total : Total (before cost) (policiesFrom act opts S 0 (0 ∷ []))
-  total x y i j n e = go (low-total x y (size x i ∙ sym (size y j)))
+module _ (act : ℕ → ℕ → Action) (opts : ℕ → List ℕ) where
+  -- two policies that differ are in order one way or the other
+  pub total : (cost : Policy → ℤ) (S : ℕ) → Total (before cost) (policiesFrom act opts S 0 (0 ∷ []))
+  total cost S x y i j n e = go (low-total x y (size x i ∙ sym (size y j)))
     where
-      size : (z : Policy) → In z all → length z ≡ S
+      size : (z : Policy) → In z (policiesFrom act opts S 0 (0 ∷ [])) → length z ≡ S
       size z k = policy-length act opts S 0 (0 ∷ []) z (in-policy act opts S 0 (0 ∷ []) z k)
 
       not-before : Before cost x y → ⊥
-      not-before b = subst T e (said cost x y b)
+      not-before b = subst T e (before-is cost x y .1 b)
 
       go : (x ≡ y) ⊎ (Low x y ⊎ Low y x) → T (before cost y x)
       go (inl q) = absurd (n q)
-      go (inr (inl l)) = said cost y x (inl (leZ-no (not-T (leZ (cost x) (cost y)) (λ h. not-before (inr (leZ-yes h, l))))))
-      go (inr (inr l)) = said cost y x (inr (ltZ-no (not-T (ltZ (cost x) (cost y)) (λ h. not-before (inl (ltZ-yes h)))), l))
+      go (inr (inl l)) = before-is cost y x .1 (inl (leZ-no (not-T (leZ (cost x) (cost y)) (λ h. not-before (inr (leZ-yes h, l))))))
+      go (inr (inr l)) = before-is cost y x .1 (inr (ltZ-no (not-T (ltZ (cost x) (cost y)) (λ h. not-before (inl (ltZ-yes h)))), l))
 
-  -- entry j is x exactly if x is a policy, j policies come before it, and j is less than K
-  pub the-list : (K j : ℕ) (x : Policy)
-      → (getElem? (take K (sorted (before cost) (policiesFrom act opts S 0 (0 ∷ [])))) j ≡ some x)
-      ↔ (IsPolicy act opts S 0 (0 ∷ []) x × (count (λ y. before cost y x) (policiesFrom act opts S 0 (0 ∷ [])) ≡ j) × (j < K))
-  the-list K j x = (
-    λ e. let h = l .0 e in (in-policy act opts S 0 (0 ∷ []) x (h .0), h .1, h .2),
-    λ h. l .1 (policy-in act opts S 0 (0 ∷ []) x (h .0), h .1, h .2),
-  )
-    where
-      l : (getElem? (take K (sorted (before cost) all)) j ≡ some x) ↔ (In x all × (count (λ y. before cost y x) all ≡ j) × (j < K))
-      l = listed (before cost) (strict cost) K all (policies-apart act opts rising S 0 (0 ∷ [])) total j x
+  module _ (rising : (p : ℕ) → Rising (opts p)) (cost : Policy → ℤ) (S : ℕ) where
+    abbrev all : List Policy
+    all = policiesFrom act opts S 0 (0 ∷ [])
+
+    all-apart : Apart all
+    all-apart = policies-apart act opts rising S 0 (0 ∷ [])
+
+    -- entry j of the list is x exactly if x is a policy, j policies come before it, and j is less than K
+    pub the-list : (K j : ℕ) (x : Policy)
+        → (getElem? (take K (sorted (before cost) (policiesFrom act opts S 0 (0 ∷ [])))) j ≡ some x)
+        ↔ (IsPolicy act opts S 0 (0 ∷ []) x × (count (λ y. before cost y x) (policiesFrom act opts S 0 (0 ∷ [])) ≡ j) × (j < K))
+    the-list K j x = (
+      λ e. let h = l .0 e in (in-policy act opts S 0 (0 ∷ []) x (h .0), h .1, h .2),
+      λ h. l .1 (policy-in act opts S 0 (0 ∷ []) x (h .0), h .1, h .2),
+    )
+      where
+        l : (getElem? (take K (sorted (before cost) all)) j ≡ some x) ↔ (In x all × (count (λ y. before cost y x) all ≡ j) × (j < K))
+        l = listed (before cost) (strict cost) K all all-apart (total cost S) j x
+
+    -- and the costs never fall from entry to entry
+    pub list-costs : (K i j : ℕ) (x y : Policy) → i < j
+        → getElem? (take K (sorted (before cost) (policiesFrom act opts S 0 (0 ∷ [])))) i ≡ some x
+        → getElem? (take K (sorted (before cost) (policiesFrom act opts S 0 (0 ∷ [])))) j ≡ some y → cost x ≤ℤ cost y
+    list-costs K i j x y h e k =
+        before-cost cost x y (listed-after (before cost) (strict cost) K all all-apart (total cost S) i j x y h e k)

@@ -1,6 +1,6 @@
 -- The sum over all paths of weight × cost is the cost-to-go by the recursion, where the weights of each action taken before the last stage add to D.
 -- Assumes nothing.
-use mathlib.Core.Path.{_≡_, refl, sym, ap, ap₂, _∙_}
+use mathlib.Core.Path.{_≡_, sym, ap, ap₂, _∙_}
 use mathlib.Core.List.{List, [], _∷_, _++_, map}
 use Prim.Native.Nat.{ℕ, zero, suc, _+_, _*_, _^_}
 use native.Mathlib.Nat.{pow-suc, pow-zero, zero-add}

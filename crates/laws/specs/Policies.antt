@@ -13,10 +13,15 @@ use native.Mathlib.Omega.{arith}
 use lib.Dec.{T}
 use lib.ListN.{length}
 use Rattle.model.specs.Lists.{isIn, forEach}
-use Rattle.model.specs.Model.{Transition, Action}
+use Rattle.model.specs.Model.{Action}
 use Rattle.model.specs.Policy.{Policy, nexts, allowed, onward, fits, policiesFrom}
 use Rattle.model.specs.Path.{byteAt}
-use Rattle.laws.specs.Members.{T-true, true-T, and-T, T-and, In, in-one, in-++, ++-in, in-forEach, forEach-in, in-map, map-in, isIn-in, in-isIn, Apart, apart-++, apart-map, Rising, below-in, AtNexts, at-nexts, nexts-at}
+use Rattle.laws.specs.Members.{T-true, true-T, and-T, T-and, In, in-one, in-++, ++-in, in-forEach, forEach-in, in-map, map-in, isIn-in, in-isIn}
+use Rattle.laws.specs.Members.{Apart, apart-++, apart-map, Rising, below-in, AtNexts, at-nexts, nexts-at}
+
+-- byte b in front of each of the policies g b
+abbrev beginWith : (ℕ → List Policy) → ℕ → List Policy
+beginWith g b = map (λ (bs : Policy). b ∷ bs) (g b)
 
 module _ (act : ℕ → ℕ → Action) (opts : ℕ → List ℕ) where
   -- the bytes are a policy of the n states from p on, where `reach` are the states known to be reached
@@ -47,43 +52,39 @@ module _ (act : ℕ → ℕ → Action) (opts : ℕ → List ℕ) where
 
   -- ---- the enumeration holds the policies and nothing else
 
-  -- the policies of suc n states from p on that begin with byte b
-  abbrev beginWith : ℕ → ℕ → List ℕ → ℕ → List Policy
-  beginWith n p reach b = map (λ (bs : Policy). b ∷ bs) (policiesFrom act opts n (suc p) (onward act p b reach))
+  -- the policies of the n states after p, with byte b at p
+  abbrev rest : ℕ → ℕ → List ℕ → ℕ → List Policy
+  rest n p reach b = policiesFrom act opts n (suc p) (onward act p b reach)
 
   pub policy-in : (n p : ℕ) (reach : List ℕ) (bs : Policy) → IsPolicy n p reach bs → In bs (policiesFrom act opts n p reach)
   policy-in zero p reach [] h = inl refl
   policy-in zero p reach (b ∷ bs) h = absurd h
   policy-in (suc n) p reach [] h = absurd h
   policy-in (suc n) p reach (b ∷ bs) h =
-      forEach-in (beginWith n p reach) (b ∷ bs) (allowed (opts p) (isIn p reach)) b (h .0)
-      (map-in (λ (bs : Policy). b ∷ bs) bs (policiesFrom act opts n (suc p) (onward act p b reach))
-      (policy-in n (suc p) (onward act p b reach) bs (h .1)))
+      forEach-in (beginWith (rest n p reach)) (b ∷ bs) (allowed (opts p) (isIn p reach)) b (h .0)
+      (map-in (λ (cs : Policy). b ∷ cs) bs (rest n p reach b) (policy-in n (suc p) (onward act p b reach) bs (h .1)))
 
   pub in-policy : (n p : ℕ) (reach : List ℕ) (bs : Policy) → In bs (policiesFrom act opts n p reach) → IsPolicy n p reach bs
   in-policy zero p reach bs (inl e) = subst (IsPolicy zero p reach) (sym e) tt
   in-policy zero p reach bs (inr i) = absurd i
   in-policy (suc n) p reach bs i =
-      let f = in-forEach (beginWith n p reach) bs (allowed (opts p) (isIn p reach)) i in
-      let g = in-map (λ (bs : Policy). f .0 ∷ bs) bs (policiesFrom act opts n (suc p) (onward act p (f .0) reach)) (f .2) in
+      let f = in-forEach (beginWith (rest n p reach)) bs (allowed (opts p) (isIn p reach)) i in
+      let g = in-map (λ (cs : Policy). f .0 ∷ cs) bs (rest n p reach (f .0)) (f .2) in
       subst (IsPolicy (suc n) p reach) (sym (g .1)) (f .1, in-policy n (suc p) (onward act p (f .0) reach) (g .0) (g .2))
 
 -- ---- no policy is enumerated twice
 
 module _ (g : ℕ → List Policy) (ag : (b : ℕ) → Apart (g b)) where
-  abbrev begun : ℕ → List Policy
-  begun b = map (λ (bs : Policy). b ∷ bs) (g b)
-
-  apart-each : (os : List ℕ) → Rising os → Apart (forEach begun os)
+  apart-each : (os : List ℕ) → Rising os → Apart (forEach (beginWith g) os)
   apart-each [] r = tt
   apart-each (b ∷ os) r =
-      apart-++ (begun b) (forEach begun os) (apart-map (λ (bs : Policy). b ∷ bs) (λ x y e. tail-eq-of-cons-eq e) (g b) (ag b)) (apart-each os (r .1))
-      clash
+      apart-++ (beginWith g b) (forEach (beginWith g) os)
+      (apart-map (λ (bs : Policy). b ∷ bs) (λ x y e. tail-eq-of-cons-eq e) (g b) (ag b)) (apart-each os (r .1)) clash
     where
-      clash : (x : Policy) → In x (begun b) → In x (forEach begun os) → ⊥
+      clash : (x : Policy) → In x (beginWith g b) → In x (forEach (beginWith g) os) → ⊥
       clash x i j =
           let u = in-map (λ (bs : Policy). b ∷ bs) x (g b) i in
-          let v = in-forEach begun x os j in
+          let v = in-forEach (beginWith g) x os j in
           let w = in-map (λ (bs : Policy). v .0 ∷ bs) x (g (v .0)) (v .2) in
           let e : b ≡ v .0 = head-eq-of-cons-eq (sym (u .1) ∙ w .1) in
           omega (arith, below-in os (r .0) (v .1))
@@ -96,7 +97,7 @@ module _ (act : ℕ → ℕ → Action) (opts : ℕ → List ℕ) (rising : (p :
   pub policies-apart : (n p : ℕ) (reach : List ℕ) → Apart (policiesFrom act opts n p reach)
   policies-apart zero p reach = (λ i. i, tt)
   policies-apart (suc n) p reach =
-      apart-each (λ b. policiesFrom act opts n (suc p) (onward act p b reach)) (λ b. policies-apart n (suc p) (onward act p b reach))
+      apart-each (rest act opts n p reach) (λ b. policies-apart n (suc p) (onward act p b reach))
       (allowed (opts p) (isIn p reach)) (allowed-rising p (isIn p reach))
 
 -- ---- the states reached
@@ -184,6 +185,7 @@ module _ (act : ℕ → ℕ → Action) where
     pub reached-by-other : In (p + index) (reachedFrom act p reach cs)
 
   module _ (opts : ℕ → List ℕ) where
+    -- two policies that differ do so first at a state that both reach
     pub differ : (n p : ℕ) (reach : List ℕ) (bs cs : Policy) → IsPolicy act opts n p reach bs → IsPolicy act opts n p reach cs
         → (bs ≡ cs → ⊥) → FirstDifference n p reach bs cs
     differ zero p reach [] [] h k d = absurd (d refl)

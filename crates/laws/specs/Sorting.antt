@@ -5,7 +5,7 @@ use mathlib.Core.Path.{_≡_, refl, sym, ap, ap₂, _∙_, subst}
 use mathlib.Core.Bool.{Bool, true, false}
 use mathlib.Core.Logic.{_⊎_, inl, inr, _↔_}
 use mathlib.Core.List.{List, [], _∷_}
-use mathlib.Core.Option.{Option, none, some}
+use mathlib.Core.Option.{some}
 use Prim.Native.Nat.{ℕ, zero, suc, _+_, _<_}
 use native.Mathlib.Omega.{arith}
 use lib.Dec.{T}
@@ -16,6 +16,7 @@ use Rattle.laws.specs.Members.{T-true, true-T, In, Every, every-in, in-e
 -- ---- the first K of any list
 
 module _ {A : Type 0} where
+  -- they are elements of the list, and none is there twice where the list has none twice
   pub in-take : (K : ℕ) (x : A) (xs : List A) → In x (take K xs) → In x xs
   in-take zero x xs i = absurd i
   in-take (suc K) x [] i = i
@@ -63,6 +64,7 @@ module _ {A : Type 0} (lt : A → A → Bool) where
   insert-length a (b ∷ bs) =
       by-test (λ s. length s ≡ suc (suc (length bs))) a b bs (λ e. refl) (λ e. ap suc (insert-length a bs))
 
+  -- the sorted list is as long
   pub sorted-length : (xs : List A) → length (sorted lt xs) ≡ length xs
   sorted-length [] = refl
   sorted-length (x ∷ xs) = insert-length x (sorted lt xs) ∙ ap suc (sorted-length xs)
@@ -72,6 +74,7 @@ module _ {A : Type 0} (lt : A → A → Bool) where
   count-insert test a (b ∷ bs) =
       by-test (λ s. count test s ≡ bit (test a) + count test (b ∷ bs)) a b bs (λ e. refl) (λ e. omega (arith, count-insert test a bs))
 
+  -- as many of its elements pass any test
   pub count-sorted : (test : A → Bool) (xs : List A) → count test (sorted lt xs) ≡ count test xs
   count-sorted test [] = refl
   count-sorted test (x ∷ xs) = count-insert test x (sorted lt xs) ∙ ap (λ (n : ℕ). bit (test x) + n) (count-sorted test xs)
@@ -97,6 +100,14 @@ module _ {A : Type 0} (lt : A → A → Bool) where
       go (inr (inl e)) ih = inl e
       go (inr (inr i)) ih = inr (ih (inr i))
 
+  every-insert : (P : A → Type 0) (a : A) (s : List A) → P a → Every P s → Every P (insert lt a s)
+  every-insert P a s h k = in-every P (insert lt a s) (λ x i. go x (in-insert x a s i))
+    where
+      go : (x : A) → (x ≡ a) ⊎ In x s → P x
+      go x (inl e) = subst P (sym e) h
+      go x (inr j) = every-in P s k x j
+
+  -- it has the same elements
   pub in-sorted : (x : A) (xs : List A) → In x (sorted lt xs) → In x xs
   in-sorted x [] i = i
   in-sorted x (y ∷ ys) i = go (in-insert x y (sorted lt ys) i) (in-sorted x ys)
@@ -119,11 +130,11 @@ module _ {A : Type 0} (lt : A → A → Bool) where
       new (inl e) = n (inl (sym e))
       new (inr i) = h .0 i
 
+  -- and none twice where the list has none twice
   pub apart-sorted : (xs : List A) → Apart xs → Apart (sorted lt xs)
   apart-sorted [] a = tt
   apart-sorted (x ∷ xs) a = apart-insert x (sorted lt xs) (λ i. a .0 (in-sorted x xs i)) (apart-sorted xs (a .1))
 
--- two tests that agree on a list's elements sort it alike
 module _ {A : Type 0} (lt other : A → A → Bool) where
   insert-same : (a : A) (s : List A) → ((x : A) → In x s → lt a x ≡ other a x) → insert lt a s ≡ insert other a s
   insert-same a [] h = refl
@@ -131,6 +142,7 @@ module _ {A : Type 0} (lt other : A → A → Bool) where
       ap₂ (λ (t : Bool) (r : List A). elim t as (λ (_ : Bool). List A) [ true ↦ a ∷ (x ∷ s) | false ↦ x ∷ r ])
       (h x (inl refl)) (insert-same a s (λ y i. h y (inr i)))
 
+  -- two tests that agree on a list's elements sort it alike
   pub sorted-same : (xs : List A) → ((x y : A) → In x xs → In y xs → lt x y ≡ other x y) → sorted lt xs ≡ sorted other xs
   sorted-same [] h = refl
   sorted-same (x ∷ xs) h =
@@ -140,6 +152,7 @@ module _ {A : Type 0} (lt other : A → A → Bool) where
 -- ---- strict orders
 
 module _ {A : Type 0} (lt : A → A → Bool) where
+  -- no element is before itself, and one before another is before all that follow that
   pub record Strict : Type 0 where
     pub irrefl : (x : A) → lt x x ≡ false
     pub trans : (x y z : A) → T (lt x y) → T (lt y z) → T (lt x z)
@@ -173,10 +186,10 @@ module _ {A : Type 0} (lt : A → A → Bool) where
     none-before x [] h = refl
     none-before x (y ∷ ys) h = rw (asym x y (h .0)) (omega (arith, none-before x ys (h .1)))
 
-    -- in a list that rises, as many elements are before an entry as its place says
     one-before : (x y : A) (ys : List A) → Every (λ z. T (lt y z)) ys → In x ys → count (λ z. lt z x) (y ∷ ys) ≡ suc (count (λ z. lt z x) ys)
     one-before x y ys h i = rw (T-true (lt y x) (every-in (λ z. T (lt y z)) ys h x i)) (omega arith)
 
+    -- in a list that rises, as many elements are before an entry as its place says
     pub rank : (s : List A) → Rises s → (j : ℕ) (x : A) → getElem? s j ≡ some x → count (λ y. lt y x) s ≡ j
     rank [] r j x e = let z : _≡_ {A = ℕ} 0 1 = cc in absurd (omega arith)
     rank (y ∷ ys) r zero x e = let q : x ≡ y = cc in rw (q, S .irrefl y) (omega (arith, none-before y ys (r .0)))
@@ -188,18 +201,11 @@ module _ {A : Type 0} (lt : A → A → Bool) where
     unrank (y ∷ ys) r x (inl e) = rw (e, S .irrefl y, none-before y ys (r .0))
     unrank (y ∷ ys) r x (inr i) = rw (one-before x y ys (r .0) i) (unrank ys (r .1) x i)
 
-    every-insert : (P : A → Type 0) (a : A) (s : List A) → P a → Every P s → Every P (insert lt a s)
-    every-insert P a s h k = in-every P (insert lt a s) (λ x i. go x (in-insert lt x a s i))
-      where
-        go : (x : A) → (x ≡ a) ⊎ In x s → P x
-        go x (inl e) = subst P (sym e) h
-        go x (inr j) = every-in P s k x j
-
     rises-insert : (a : A) (s : List A) → Rises s → ((x : A) → In x s → lt a x ≡ false → T (lt x a)) → Rises (insert lt a s)
     rises-insert a [] r t = (tt, tt)
     rises-insert a (b ∷ bs) r t =
         by-test lt Rises a b bs (λ e. (front (true-T e), r))
-        (λ e. (every-insert (λ y. T (lt b y)) a bs (t b (inl refl) e) (r .0), rises-insert a bs (r .1) (λ x i e. t x (inr i) e)))
+        (λ e. (every-insert lt (λ y. T (lt b y)) a bs (t b (inl refl) e) (r .0), rises-insert a bs (r .1) (λ x i e. t x (inr i) e)))
       where
         front : T (lt a b) → Every (λ y. T (lt a y)) (b ∷ bs)
         front h = (h, in-every (λ y. T (lt a y)) bs (λ y i. S .trans a b y h (every-in (λ z. T (lt b z)) bs (r .0) y i)))
@@ -221,8 +227,7 @@ module _ {A : Type 0} (lt : A → A → Bool) where
 
         to : getElem? (take K (sorted lt xs)) j ≡ some x → In x xs × (count (λ y. lt y x) xs ≡ j) × (j < K)
         to e =
-            let k = take-at K (sorted lt xs) j x e in
-            (
+            let k = take-at K (sorted lt xs) j x e in (
               in-sorted lt x xs (at-in (sorted lt xs) j x (k .1)),
               sym (count-sorted lt (λ y. lt y x) xs) ∙ rank (sorted lt xs) r j x (k .1),
               k .0,

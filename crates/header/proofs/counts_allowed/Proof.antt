@@ -44,10 +44,11 @@ unfolding counted mostActions
 answer c =
     let t = c .before .before .before in
     let for = c .before .stage-for in
-    rw
-    ( for-stage (t .before .args .b .now) (t .loop .p) (for .result) (for .ensures)
-    , c .count-allowed .ensures
-    , t .before .pre .1 .h-is)
+    rw (
+      for-stage (t .before .args .b .now) (t .loop .p) (for .result) (for .ensures),
+      c .count-allowed .ensures,
+      t .before .pre .1 .h-is,
+    )
 
 returns : tie.Need-returns Inv-loop μ-loop
 unfolding countsAllowed counted
@@ -66,10 +67,11 @@ loop-again : tie.Need-loop-again Inv-loop μ-loop
 loop-again c =
     let t = c .before .before .before .before in
     let ws = t .before .args .b .now in
-    let for = c .before .before .stage-for in
-    ( omega arith
-    , next-near ws (t .loop .p) (for .result) (for .ensures)
-    , all-more (t .loop .p) (counted ws) (t .loop .inv .2) (answer (c .before) ∙ not-false _ (c .if1 .left)))
+    let for = c .before .before .stage-for in (
+      omega arith,
+      next-near ws (t .loop .p) (for .result) (for .ensures),
+      all-more (t .loop .p) (counted ws) (t .loop .inv .2) (answer (c .before) ∙ not-false _ (c .if1 .left)),
+    )
 
 returns-2 : tie.Need-returns-2 Inv-loop μ-loop
 unfolding countsAllowed counted

@@ -29,10 +29,11 @@ unfolding sizesAllowed
 returns-3 c =
     let d = c .before .before in
     let f = d .before in
-    rw
-    ( yes′ (f .before .word-in .ensures) (f .if1 .left)
-    , yes′ (d .later-sizes .ensures) (c .before .if2 .left)
-    , f .before .before .pre .1 .s-is)
+    rw (
+      yes′ (f .before .word-in .ensures) (f .if1 .left),
+      yes′ (d .later-sizes .ensures) (c .before .if2 .left),
+      f .before .before .pre .1 .s-is,
+    )
 
 pub sizes-allowed-spec : {M : Type 1} → statement M
 sizes-allowed-spec =

@@ -1,0 +1,24 @@
+-- A word from 1 on is its own size.
+-- Assumes nothing.
+use Rattle.model.specs.Model.{word}
+use Rattle.book.proofs.Words.{no, yes′, to-neg, to-size}
+use borrow.Author.Needs.{needs}
+use Rattle.book.proofs.word_to.Statement.{statement}
+use Rattle.book.proofs.word_to.Tie as tie
+
+word-above-requires : tie.Need-word-above-requires
+word-above-requires c κs = search needs
+
+returns : tie.Need-returns
+returns c = let s = c .before .before in to-neg (word (s .args .b .now) (s .args .i)) (s .args .n) (no (c .before .word-above .ensures) (c .if1 .taken))
+
+size-at-requires : tie.Need-size-at-requires
+size-at-requires c κs = search needs
+
+returns-2 : tie.Need-returns-2
+returns-2 c =
+    let s = c .before .before .before in
+    rw (c .size-at .ensures .is) (to-size (word (s .args .b .now) (s .args .i)) (s .args .n) (yes′ (c .before .before .word-above .ensures) (c .before .if1 .left)))
+
+pub word-to-spec : {M : Type 1} → statement M
+word-to-spec = tie.close (tie.spec word-above-requires returns size-at-requires returns-2)
