@@ -4,14 +4,14 @@ use mathlib.Core.Path.{_≡_, refl, sym, ap, ap₂, _∙_, subst}
 use mathlib.Core.Bool.{Bool, true, false, not, _&&_}
 use Prim.Native.Nat.{ℕ, zero, suc, _+_, _-_, _≤_, _<_, max, min}
 use native.Mathlib.Omega.{arith}
-use borrow.Author.Tests.{eq-eqb, ne-eqb, le-leb, lt-leb}
+use borrow.Author.Tests.{eq-eqb, ne-eqb, le-leb, lt-leb, leb-true}
 use lib.IntN.{ℤ, pos, negsuc, natAbs}
 use lib.Signed.{ltZ}
-use lib.Dec.{eqb}
+use lib.Dec.{eqb, leb}
 use Rattle.model.specs.Lists.{all, sumTo}
-use Rattle.model.specs.Model.{Words, word, scale, horizon, lineCount, left, right, branches, lineAfter, stageSize}
+use Rattle.model.specs.Model.{Words, word, scale, horizon, lineCount, actionCount, left, right, branches, lineAfter, stageSize}
 use Rattle.model.specs.Questions.{inside, nextBefore, branchesAllowed, costAllowed, nextsAllowed, weightSum, weightsAllowed}
-use Rattle.questions.specs.Ranges.{and-right, all-same, sum-same}
+use Rattle.questions.specs.Ranges.{and-true, and-right, all-same, sum-same}
 use Rattle.book.specs.Read.{SizesAre}
 use Rattle.book.specs.declared.Sizes.{Sizes}
 use Rattle.check_book.specs.Walk.{prevAt, nextAllowed, WeighedAs, branchesInside, code, lowest, actionNumber}
@@ -65,6 +65,14 @@ module _ (ws : Words) (z : Sizes) (are : SizesAre ws z) (i : ℕ) where
   pub branches-are : (r : ℕ) → r ≡ natAbs (word ws (4 + z .h + z .s + i)) → r ≡ branches ws i
   unfolding branches
   branches-are r e = e ∙ ap natAbs (left-is (4 + z .h + z .s + i) refl)
+
+  pub inside-is : (n : ℕ) → branchesInside (left ws i) n (horizon ws) ≡ branchesInside (word ws (4 + z .h + z .s + i)) n (z .h)
+  inside-is n = ap₂ (λ (x : ℤ) (h : ℕ). branchesInside x n h) (sym (left-is (4 + z .h + z .s + i) refl)) (sym (are .h-is))
+
+  pub cost-is : (n : ℕ) → costAllowed ws n i ≡ inside (negsuc 99999) (pos 100000) (word ws (4 + z .h + z .s + i + z .l))
+  unfolding costAllowed
+  cost-is n =
+      ap (λ (x : ℤ). inside (negsuc 99999) (pos 100000) x) (sym (right-is (4 + z .h + z .s + i + z .l) (omega arith)))
 
   pub size-is : (n r : ℕ) → r ≡ natAbs (word ws (4 + n)) → r ≡ stageSize ws (n + 1)
   unfolding stageSize
@@ -120,7 +128,7 @@ module _ (ws : Words) (z : Sizes) (are : SizesAre ws z) (n j : ℕ) where
 module _ (ws : Words) (n j : ℕ) where
   pub unfit : lineCount ws < lineAfter ws j → branchesAllowed ws n j ≡ false
   unfolding branchesAllowed
-  unfit h = rw (lt-leb (lineAfter ws j) (lineCount ws) h) (and-right _)
+  unfit h = rw (lt-leb (lineAfter ws j) (lineCount ws) h) (and-right (branchesInside (left ws j) n (horizon ws)))
 
   pub unbranched : branchesInside (left ws j) n (horizon ws) ≡ false → branchesAllowed ws n j ≡ false
   unfolding branchesAllowed
@@ -152,3 +160,14 @@ module _ (ws : Words) (n j : ℕ) where
         pub zero-all : weightsAllowed ws n j ≡ true → 0 ≡ actionNumber ws n j
         unfolding actionNumber
         zero-all h = rw (e, f, g, h)
+
+pub fit-bound : (ws : Words) (n j : ℕ) → branchesAllowed ws n j ≡ true → lineAfter ws j ≤ lineCount ws
+unfolding branchesAllowed
+fit-bound ws n j e =
+    leb-true (lineAfter ws j) (lineCount ws)
+    (and-true (branchesInside (left ws j) n (horizon ws)) (leb (lineAfter ws j) (lineCount ws)) e .1)
+
+-- the number of actions of state p, as it was read
+pub count-is : (ws : Words) (h p r : ℕ) → h ≡ horizon ws → r ≡ natAbs (word ws (4 + h + p)) → r ≡ actionCount ws p
+unfolding actionCount
+count-is ws h p r e f = rw e at f

@@ -3,12 +3,12 @@
 use mathlib.Core.Path.{_≡_}
 use mathlib.Core.Bool.{Bool, true, false, _&&_, cond}
 use mathlib.Core.Logic.{_⊎_}
-use Prim.Native.Nat.{ℕ, zero, suc, _+_, max, min}
+use Prim.Native.Nat.{ℕ, zero, suc, _+_, _≤_, _<_, max, min}
 use lib.IntN.{ℤ, pos, negsuc, natAbs}
 use lib.Signed.{ltZ}
 use lib.Dec.{eqb}
 use Rattle.model.specs.Lists.{all, sumTo, maxTo}
-use Rattle.model.specs.Model.{Words, word, stage, actionCount, right, actionLine}
+use Rattle.model.specs.Model.{Words, word, horizon, stateCount, stage, actionCount, right, lineAfter, actionLine}
 use Rattle.model.specs.Questions.{inside, everyAction, branchesAllowed, linesAllowed, costAllowed, nextsAllowed, weightsAllowed, largestCost}
 use Rattle.check_book.specs.declared.Weighed.{Weighed}
 use Rattle.check_book.specs.declared.Walk.{Walk}
@@ -47,6 +47,18 @@ lowest (suc x) (suc y) = min (suc x) (suc y)
 -- of one action
 unfoldable pub actionNumber : Words → ℕ → ℕ → ℕ
 actionNumber ws n j = code (branchesAllowed ws n j) (costAllowed ws n j) (nextsAllowed ws n j) (weightsAllowed ws n j)
+
+-- w after one action more, of the number `no`
+pub record Advanced (ws : Words) (w : Walk) (no : ℕ) (r : Walk) : Type 0 where
+  pub no-is : r .no ≡ lowest (w .no) no
+  pub at-is : r .at ≡ lineAfter ws (w .at)
+  pub largest-is : r .largest ≡ max (w .largest) (natAbs (right ws (w .at)))
+
+-- p is a state of the model, of stage n
+pub record StateOf (ws : Words) (p n : ℕ) : Type 0 where
+  pub state : p < stateCount ws
+  pub stage-is : stage ws p ≡ n
+  pub last : n ≤ horizon ws
 
 -- ---- the walk has passed every action of the states below p and the first c of state p
 

@@ -46,7 +46,7 @@ returns c =
     let s = c .before .before .before .before .before in
     c .nexts-rise .ensures
     ∙ nexts-are (s .args .b .now) (s .args .z) (s .pre .1) (s .args .n) (s .args .j) _ _ _ refl (r-is (c .before .before))
-      (size-is (s .args .b .now) (s .args .z) (s .pre .1) (s .args .j) (s .args .n) _ (c .before .size-at2 .ensures .is))
+    (size-is (s .args .b .now) (s .args .z) (s .pre .1) (s .args .j) (s .args .n) _ (c .before .size-at2 .ensures .is))
 
 pub nexts-allowed-spec : {M : Type 1} → statement M
 nexts-allowed-spec =

@@ -1,0 +1,70 @@
+-- The entries of a list, and the order of a list's elements by how many come before each. For any lists and any strict order that is total on the
+-- list's elements.
+-- Assumes nothing.
+use mathlib.Core.Path.{_≡_, refl, sym, _∙_, subst}
+use mathlib.Core.Bool.{Bool, true, false}
+use mathlib.Core.Logic.{_⊎_, inl, inr, _↔_}
+use mathlib.Core.List.{List, [], _∷_}
+use mathlib.Core.Option.{some}
+use Prim.Native.Nat.{ℕ, zero, suc, _+_, _≤_, _<_}
+use native.Mathlib.Nat.{lt-trichotomy}
+use native.Mathlib.Omega.{arith}
+use lib.Dec.{T}
+use lib.ListN.{length, getElem?, take}
+use Rattle.model.specs.Lists.{bit, count, sorted}
+use Rattle.laws.specs.Members.{In, Apart}
+use Rattle.laws.specs.Sorting.{Strict, Total, listed, listed-after}
+
+module _ {A : Type 0} where
+  -- an element is an entry
+  pub in-at : (x : A) (s : List A) → In x s → (j : ℕ) × (getElem? s j ≡ some x)
+  in-at x [] i = absurd i
+  in-at x (y ∷ ys) (inl e) = (0, rw e)
+  in-at x (y ∷ ys) (inr i) = let r = in-at x ys i in (suc (r .0), r .1)
+
+  -- each place below the length has an entry
+  pub some-at : (s : List A) (j : ℕ) → j < length s → (x : A) × (getElem? s j ≡ some x)
+  some-at [] j h = absurd (omega arith)
+  some-at (x ∷ xs) zero h = (x, refl)
+  some-at (x ∷ xs) (suc j) h = some-at xs j (omega arith)
+
+  -- the first one of a list, by its entry
+  pub take-one : (s : List A) (x : A) → getElem? (take 1 s) 0 ≡ some x → take 1 s ≡ x ∷ []
+  take-one [] x e = let z : _≡_ {A = ℕ} 0 1 = cc in absurd (omega arith)
+  take-one (y ∷ ys) x e = let q : y ≡ x = cc in rw q
+
+  -- at most all elements pass a test; none does where each fails
+  pub count-most : (test : A → Bool) (xs : List A) → count test xs ≤ length xs
+  count-most test [] = omega arith
+  count-most test (x ∷ xs) = go (test x) (count-most test xs)
+    where
+      go : (b : Bool) → count test xs ≤ length xs → bit b + count test xs ≤ suc (length xs)
+      go true h = omega arith
+      go false h = omega arith
+
+  pub count-none : (test : A → Bool) (xs : List A) → ((x : A) → In x xs → test x ≡ false) → count test xs ≡ 0
+  count-none test [] h = refl
+  count-none test (x ∷ xs) h = rw (h x (inl refl)) (omega (arith, count-none test xs (λ y i. h y (inr i))))
+
+module _ {A : Type 0} (lt : A → A → Bool) (S : Strict lt) (xs : List A) (a : Apart xs) (t : Total lt xs) where
+  abbrev rankOf : A → ℕ
+  rankOf x = count (λ y. lt y x) xs
+
+  -- each element stands in the sorted list at its rank
+  at-rank : (K : ℕ) (x : A) → In x xs → rankOf x < K → getElem? (take K (sorted lt xs)) (rankOf x) ≡ some x
+  at-rank K x i h = listed lt S K xs a t (rankOf x) x .1 (i, refl, h)
+
+  -- an element is before another exactly if fewer elements come before it
+  pub by-rank : (x y : A) → In x xs → In y xs → T (lt x y) ↔ (count (λ z. lt z x) xs < count (λ z. lt z y) xs)
+  by-rank x y i j = (to (lt-trichotomy (rankOf x) (rankOf y)), from x y i j)
+    where
+      from : (x y : A) → In x xs → In y xs → rankOf x < rankOf y → T (lt x y)
+      from x y i j h =
+          listed-after lt S (suc (rankOf y)) xs a t (rankOf x) (rankOf y) x y h (at-rank (suc (rankOf y)) x i (omega arith))
+          (at-rank (suc (rankOf y)) y j (omega arith))
+
+      never : (z : A) → T (lt z z) → ⊥
+      never z h = subst T (S .irrefl z) h
+
+      to : ? → T (lt x y) → rankOf x < rankOf y
+      to = ?

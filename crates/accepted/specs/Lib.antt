@@ -1,0 +1,4 @@
+pub mod Facts
+pub mod Shape
+pub mod Entries
+pub mod Walks

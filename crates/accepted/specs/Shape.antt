@@ -1,0 +1,277 @@
+-- The actions of an accepted book have the shape that the laws about policies ask for, its options are lists as they ask, and its costs and weights
+-- are bounded as they ask.
+-- Assumes nothing.
+use mathlib.Core.Path.{_≡_, refl, sym, ap, _∙_, subst}
+use mathlib.Core.Bool.{Bool, true, false, _&&_, _||_, cond}
+use mathlib.Core.Logic.{_⊎_, inl, inr, _↔_}
+use mathlib.Core.List.{List, [], _∷_, map}
+use Prim.Native.Nat.{ℕ, zero, suc, _+_, _-_, _≤_, _<_}
+use native.Mathlib.Nat.{eq-or-lt-of-le, add-zero}
+use native.Mathlib.Omega.{arith}
+use native.Mathlib.Decide.{decLt}
+use borrow.Author.Tests.{ltb-true, leb-true, eqb-true, lt-ltb, ne-eqb}
+use lib.Dec.{T, eqb, ltb, ltb→lt}
+use lib.IntN.{ℤ, pos, negsuc, natAbs}
+use lib.Signed.{leZ, ltZ}
+use Rattle.model.specs.Lists.{all, sumTo, upFrom}
+use Rattle.model.specs.Model.{Words, Transition, Action, scale, horizon, stageSize, firstState, stateCount, stage, togo, actionCount, left, right}
+use Rattle.model.specs.Model.{branches, actionLine, transitionAt, readAction, noAction, action, options}
+use Rattle.model.specs.Questions.{inside, nextBefore, nextsAllowed, weightSum, weightsAllowed, largestCost, bookNumber}
+use Rattle.model.specs.Policy.{Policy, isPolicy}
+use Rattle.model.specs.Path.{byteAt, taken}
+use Rattle.laws.specs.Members.{T-true, true-T, In, Every, in-every, every-imp, every-both, in-map, Rising, upFrom-in, in-upFrom, upFrom-rising}
+use Rattle.laws.specs.Members.{AtNexts}
+use Rattle.laws.specs.Paths.{weightsOf, Full}
+use Rattle.laws.specs.Best.{Obeys}
+use Rattle.laws.specs.Policies.{IsPolicy, fits-is}
+use Rattle.laws.specs.First.{Shape, Lists, policy-obeys}
+use Rattle.questions.specs.Ranges.{and-true, all-at, sum-same, inside-range}
+use Rattle.questions.specs.Stages.{OfStage, stage-is, of-stage, first-mono, first-step, first-zero}
+use Rattle.accepted.specs.Facts.{Accepted, accepted}
+
+-- a sum by its first term
+sum-front : (n : ℕ) (f : ℕ → ℕ) → sumTo (suc n) f ≡ f 0 + sumTo n (λ (i : ℕ). f (suc i))
+sum-front zero f = omega arith
+sum-front (suc n) f = omega (arith, sum-front n f)
+
+module _ (ws : Words) where
+  -- the options of a state are its actions, lowest first
+  pub options-below : (p : ℕ) {c : ℕ} → In c (options ws p) → c < actionCount ws p
+  unfolding options
+  options-below p i = omega (arith, upFrom-in 0 (actionCount ws p) i)
+
+  pub below-options : (p c : ℕ) → c < actionCount ws p → In c (options ws p)
+  unfolding options
+  below-options p c l = in-upFrom 0 (actionCount ws p) c (omega arith) (omega arith)
+
+  options-rising : (p : ℕ) → Rising (options ws p)
+  unfolding options
+  options-rising p = upFrom-rising 0 (actionCount ws p)
+
+  -- what the test of a policy decides
+  pub policy-is : (bs : Policy) → T (isPolicy ws bs) ↔ IsPolicy (action ws) (options ws) (stateCount ws) 0 (0 ∷ []) bs
+  unfolding isPolicy
+  policy-is bs = fits-is (action ws) (options ws) (stateCount ws) 0 (0 ∷ []) bs
+
+  -- ---- an action and its transitions, as read
+
+  -- what holds of no action, and of action c of state p as it is read where the state has it, holds of `action ws p c`
+  pub by-action : (P : Action → Type 0) (p c : ℕ) → P noAction
+      → (p < stateCount ws → c < actionCount ws p → P (readAction ws (stage ws p) (actionLine ws p c))) → P (action ws p c)
+  unfolding action
+  by-action P p c none some = go (ltb p (stateCount ws)) refl (ltb c (actionCount ws p)) refl
+    where
+      go : (a : Bool) → ltb p (stateCount ws) ≡ a → (b : Bool) → ltb c (actionCount ws p) ≡ b
+          → P (cond (a && b) (readAction ws (stage ws p) (actionLine ws p c)) noAction)
+      go true e true k = some (ltb-true p (stateCount ws) e) (ltb-true c (actionCount ws p) k)
+      go true e false k = none
+      go false e b k = none
+
+  pub action-is : (p c : ℕ) → p < stateCount ws → c < actionCount ws p → action ws p c ≡ readAction ws (stage ws p) (actionLine ws p c)
+  unfolding action
+  action-is p c l k = rw (lt-ltb p (stateCount ws) l, lt-ltb c (actionCount ws p) k)
+
+  -- what holds of each transition below line j holds of every transition of the action whose first line it is
+  every-read : (P : Transition → Type 0) (n j : ℕ) → ((i : ℕ) → i < branches ws j → P (transitionAt ws n (j + 1 + i)))
+      → Every P (readAction ws n j .transitions)
+  unfolding readAction
+  every-read P n j h =
+      in-every P (map (transitionAt ws n) (upFrom (j + 1) (branches ws j)))
+      (λ t m. let r = in-map (transitionAt ws n) t (upFrom (j + 1) (branches ws j)) m in subst P (sym (r .1)) (at (r .0) (r .2)))
+    where
+      at : (k : ℕ) → In k (upFrom (j + 1) (branches ws j)) → P (transitionAt ws n k)
+      at k i =
+          let b = upFrom-in (j + 1) (branches ws j) i in
+          let e : j + 1 + (k - (j + 1)) ≡ k = omega arith in
+          subst (λ (m : ℕ). P (transitionAt ws n m)) e (h (k - (j + 1)) (omega arith))
+
+  -- the weights of its transitions add to what question 12 adds
+  weights-from : (n k r : ℕ) → weightsOf (map (transitionAt ws n) (upFrom k r)) ≡ sumTo r (λ (i : ℕ). natAbs (right ws (k + i)))
+  unfolding transitionAt
+  weights-from n k zero = refl
+  weights-from n k (suc r) =
+      ap (λ (s : ℕ). natAbs (right ws k) + s)
+      (weights-from n (suc k) r
+      ∙ sum-same r (λ (i : ℕ). natAbs (right ws (suc k + i))) (λ (i : ℕ). natAbs (right ws (k + suc i)))
+      (λ i l. ap (λ (m : ℕ). natAbs (right ws m)) (omega arith)))
+      ∙ ap (λ (m : ℕ). natAbs (right ws m) + sumTo r (λ (i : ℕ). natAbs (right ws (k + suc i)))) (sym (add-zero k))
+      ∙ sym (sum-front r (λ (i : ℕ). natAbs (right ws (k + i))))
+
+  weights-read : (n j : ℕ) → weightsOf (readAction ws n j .transitions) ≡ weightSum ws j
+  unfolding readAction weightSum
+  weights-read n j = weights-from n (j + 1) (branches ws j)
+
+-- ---- question 11
+
+-- a word above one that is at least -1, and below w
+raised : (a z : ℤ) (w : ℕ) → leZ (negsuc 0) a ≡ true → ltZ a z ≡ true → ltZ z (pos w) ≡ true → (leZ (negsuc 0) z ≡ true) × (natAbs z < w)
+raised a (pos v) w h k l = (refl, ltb-true v w l)
+raised (pos u) (negsuc m) w h k l = let z : _≡_ {A = ℕ} 0 1 = cc in absurd (omega arith)
+raised (negsuc u) (negsuc m) w h k l = absurd (omega (arith, leb-true u 0 h, ltb-true m u k))
+
+module _ (ws : Words) (n j : ℕ) (e : nextsAllowed ws n j ≡ true) where
+  next-tests : (i : ℕ) → i < branches ws j
+      → (ltZ (nextBefore ws j i) (left ws (j + 1 + i)) ≡ true) × (ltZ (left ws (j + 1 + i)) (pos (stageSize ws (n + 1))) ≡ true)
+  unfolding nextsAllowed
+  next-tests i l =
+      and-true (ltZ (nextBefore ws j i) (left ws (j + 1 + i))) (ltZ (left ws (j + 1 + i)) (pos (stageSize ws (n + 1))))
+      (all-at (branches ws j)
+      (λ (i : ℕ). ltZ (nextBefore ws j i) (left ws (j + 1 + i)) && ltZ (left ws (j + 1 + i)) (pos (stageSize ws (n + 1)))) e i l)
+
+  next-range : (i : ℕ) → i < branches ws j → (leZ (negsuc 0) (left ws (j + 1 + i)) ≡ true) × (natAbs (left ws (j + 1 + i)) < stageSize ws (n + 1))
+  next-range zero l = let t = next-tests 0 l in raised (negsuc 0) (left ws (j + 1 + 0)) (stageSize ws (n + 1)) refl (t .0) (t .1)
+  next-range (suc i) l =
+      let t = next-tests (suc i) l in
+      raised (left ws (j + 1 + i)) (left ws (j + 1 + suc i)) (stageSize ws (n + 1)) (next-range i (omega arith) .0) (t .0) (t .1)
+
+-- ---- question 12
+
+module _ (ws : Words) (n j : ℕ) (e : weightsAllowed ws n j ≡ true) where
+  weight-tests : (all (branches ws j) (λ (i : ℕ). inside (pos 1) (pos (scale ws)) (right ws (j + 1 + i))) ≡ true)
+      × ((eqb n (horizon ws) || eqb (weightSum ws j) (scale ws)) ≡ true)
+  unfolding weightsAllowed
+  weight-tests =
+      and-true (all (branches ws j) (λ (i : ℕ). inside (pos 1) (pos (scale ws)) (right ws (j + 1 + i))))
+      (eqb n (horizon ws) || eqb (weightSum ws j) (scale ws)) e
+
+  weight-range : (i : ℕ) → i < branches ws j → (1 ≤ natAbs (right ws (j + 1 + i))) × (natAbs (right ws (j + 1 + i)) ≤ scale ws)
+  weight-range i l =
+      inside-range 1 (scale ws) (right ws (j + 1 + i))
+      (all-at (branches ws j) (λ (i : ℕ). inside (pos 1) (pos (scale ws)) (right ws (j + 1 + i))) (weight-tests .0) i l)
+
+  weight-sum : n < horizon ws → weightSum ws j ≡ scale ws
+  weight-sum l = eqb-true (weightSum ws j) (scale ws) (rw (ne-eqb n (horizon ws) (λ q. omega arith)) at (weight-tests .1))
+
+no-weight : (ws : Words) (j : ℕ) → branches ws j ≡ 0 → weightSum ws j ≡ 0
+unfolding weightSum
+no-weight ws j e = rw e
+
+-- ---- an accepted book
+
+module _ (ws : Words) (ok : bookNumber ws ≡ 0) where
+  book : Accepted ws
+  book = accepted ws ok
+
+  -- stage 0 has state 0 alone
+  first-one : firstState ws 1 ≡ 1
+  first-one = omega (arith, first-step ws 0, first-zero ws, book .sizes .one)
+
+  some-state : 0 < stateCount ws
+  unfolding stateCount
+  some-state = omega (arith, first-one, first-mono ws 1 (horizon ws + 1) (omega arith))
+
+  -- from state 0 all stages with a decision are still to come
+  pub togo-start : togo ws 0 ≡ horizon ws
+  unfolding togo
+  togo-start =
+      let e : stage ws 0 ≡ 0 = stage-is ws 0 0 (record { within = omega arith; from = omega (arith, first-zero ws); to = omega (arith, first-one) }) in
+      omega arith
+
+  -- a next state q of state p: it is later, it is a state of the model, and it is one stage on
+  abbrev Onward : ℕ → ℕ → Type 0
+  Onward p q = (p < q) × (q < stateCount ws) × (togo ws p ≡ suc (togo ws q))
+
+  stage-on : (p v : ℕ) → p < stateCount ws → stage ws p < horizon ws → v < stageSize ws (stage ws p + 1)
+      → Onward p (firstState ws (stage ws p + 1) + v)
+  unfolding stateCount togo
+  stage-on p v l h k = (
+    omega (arith, here .to),
+    omega (arith, next .to, first-mono ws (n + 1 + 1) (horizon ws + 1) (omega arith)),
+    omega (arith, stage-is ws q (n + 1) next),
+  )
+    where
+      n : ℕ
+      n = stage ws p
+
+      q : ℕ
+      q = firstState ws (n + 1) + v
+
+      here : OfStage ws p n
+      here = of-stage ws p l
+
+      next : OfStage ws q (n + 1)
+      next = record { within = omega arith; from = omega arith; to = omega (arith, first-step ws (n + 1)) }
+
+  -- an action with a transition is of a stage before stage H
+  before-last : (p c i : ℕ) → p < stateCount ws → c < actionCount ws p → i < branches ws (actionLine ws p c) → stage ws p < horizon ws
+  before-last p c i l k b = go (eq-or-lt-of-le (of-stage ws p l .within))
+    where
+      go : (stage ws p ≡ horizon ws) ⊎ (stage ws p < horizon ws) → stage ws p < horizon ws
+      go (inl e) = absurd (omega (arith, book .branches-last p c l k e))
+      go (inr h) = h
+
+  next-states : (p c : ℕ) → AtNexts (Onward p) (action ws p c .transitions)
+  unfolding transitionAt
+  next-states p c =
+      by-action ws (λ (a : Action). AtNexts (Onward p) (a .transitions)) p c tt
+      (λ l k. every-read ws (λ (t : Transition). Onward p (t .next)) (stage ws p) (actionLine ws p c)
+      (λ i b. stage-on p (natAbs (left ws (actionLine ws p c + 1 + i))) l (before-last p c i l k b)
+      (next-range ws (stage ws p) (actionLine ws p c) (book .nexts-allowed p c l k) i b .1)))
+
+  weights-positive : (p c : ℕ) → Every (λ (t : Transition). 0 < t .weight) (action ws p c .transitions)
+  unfolding transitionAt
+  weights-positive p c =
+      by-action ws (λ (a : Action). Every (λ (t : Transition). 0 < t .weight) (a .transitions)) p c tt
+      (λ l k. every-read ws (λ (t : Transition). 0 < t .weight) (stage ws p) (actionLine ws p c)
+      (λ i b. weight-range ws (stage ws p) (actionLine ws p c) (book .weights-allowed p c l k) i b .0))
+
+  -- no state has an action 255
+  no-action : (p : ℕ) → action ws p 255 .transitions ≡ []
+  no-action p =
+      by-action ws (λ (a : Action). a .transitions ≡ []) p 255 refl (λ l k. absurd (omega (arith, book .counts-high p l)))
+
+  pub shape : Shape (stateCount ws) (action ws) (togo ws)
+  shape = record {
+    some-state = some-state;
+    step = λ p c. every-imp (λ t h. h .2) (action ws p c .transitions) (next-states p c);
+    later = λ p c. every-imp (λ t h. h .0) (action ws p c .transitions) (next-states p c);
+    inside = λ p c. every-imp (λ t h. h .1) (action ws p c .transitions) (next-states p c);
+    positive = weights-positive;
+    bare = no-action;
+  }
+
+  pub lists : Lists (λ p. p < stateCount ws) (action ws) (options ws)
+  lists = record {
+    rising = options-rising ws;
+    first-alive = some-state;
+    some-action = λ p l. (0, below-options ws p 0 (book .counts-low p l));
+    stays-alive = λ p c l i. shape .inside p c;
+  }
+
+  -- "does each choice's sum to exactly D (before stage H)?"
+  pub weights-full : (p c : ℕ) → p < stateCount ws → c < actionCount ws p → stage ws p < horizon ws
+      → weightsOf (action ws p c .transitions) ≡ scale ws
+  weights-full p c l k h =
+      rw (action-is ws p c l k, weights-read ws (stage ws p) (actionLine ws p c))
+      (weight-sum ws (stage ws p) (actionLine ws p c) (book .weights-allowed p c l k) h)
+
+  -- of any state and action, the weights add to at most D
+  pub weights-bound : (p c : ℕ) → weightsOf (action ws p c .transitions) ≤ scale ws
+  weights-bound p c =
+      by-action ws (λ (a : Action). weightsOf (a .transitions) ≤ scale ws) p c (omega arith)
+      (λ l k. rw (weights-read ws (stage ws p) (actionLine ws p c)) (go l k (eq-or-lt-of-le (of-stage ws p l .within))))
+    where
+      go : p < stateCount ws → c < actionCount ws p → (stage ws p ≡ horizon ws) ⊎ (stage ws p < horizon ws)
+          → weightSum ws (actionLine ws p c) ≤ scale ws
+      go l k (inl e) = omega (arith, no-weight ws (actionLine ws p c) (book .branches-last p c l k e))
+      go l k (inr h) = omega (arith, weight-sum ws (stage ws p) (actionLine ws p c) (book .weights-allowed p c l k) h)
+
+  -- and the cost is at most the largest
+  pub cost-bound : (p c : ℕ) → natAbs (action ws p c .cost) ≤ largestCost ws
+  unfolding readAction
+  cost-bound p c = by-action ws (λ (a : Action). natAbs (a .cost) ≤ largestCost ws) p c (omega arith) (book .cost-bounded p c)
+
+  -- before stage H the weights of each action that a policy takes add to D
+  full-from : (bs : Policy) (m p : ℕ) → p < stateCount ws → togo ws p ≡ m → Obeys (action ws) (options ws) (byteAt bs) m p
+      → Full (scale ws) (taken ws bs) m p
+  unfolding taken togo
+  full-from bs zero p l e o = tt
+  full-from bs (suc m) p l e o = (
+    weights-full p (byteAt bs p) l (options-below ws p (o .0)) (omega arith),
+    every-both (λ t r n. full-from bs m (t .next) (n .1) (omega arith) r) (action ws p (byteAt bs p) .transitions) (o .1) (next-states p (byteAt bs p)),
+  )
+
+  pub full : (bs : Policy) → T (isPolicy ws bs) → Full (scale ws) (taken ws bs) (horizon ws) 0
+  full bs t =
+      full-from bs (horizon ws) 0 some-state togo-start
+      (policy-obeys (stateCount ws) (action ws) (togo ws) shape (options ws) bs (policy-is ws bs .0 t) (horizon ws))

@@ -1,0 +1,83 @@
+-- The words read are those of the action's first line.
+-- Assumes nothing.
+use mathlib.Core.Path.{_≡_, refl, sym, ap, ap₂, _∙_}
+use Prim.Native.Nat.{_+_, max}
+use lib.IntN.{natAbs}
+use native.Mathlib.Omega.{arith}
+use Rattle.model.specs.Model.{branches, lineAfter}
+use Rattle.check_book.proofs.Steps.{branches-are, right-is}
+use borrow.Author.Needs.{needs}
+use Rattle.check_book.proofs.advance.Statement.{statement}
+use Rattle.check_book.proofs.advance.Tie as tie
+
+add-at : tie.Need-add-at
+add-at c = search needs
+
+add-at-2 : tie.Need-add-at-2
+add-at-2 c = search needs
+
+add-at-3 : tie.Need-add-at-3
+unfolding lineAfter
+add-at-3 c = omega arith
+
+lower-requires : tie.Need-lower-requires
+lower-requires c κs = search needs
+
+add-t7 : tie.Need-add-t7
+unfolding lineAfter
+add-t7 c = omega arith
+
+size-at-requires : tie.Need-size-at-requires
+unfolding lineAfter
+size-at-requires c κs = omega arith
+
+r-is : (c : tie.After-size-at) →
+    c .size-at .result ≡ branches (c .before .before .before .before .args .b .now) (c .before .before .before .before .args .w .at)
+r-is c =
+    let s = c .before .before .before .before in
+    branches-are (s .args .b .now) (s .args .z) (s .pre .1) (s .args .w .at) (c .size-at .result) (c .size-at .ensures .is)
+
+add-t10 : tie.Need-add-t10
+unfolding lineAfter
+add-t10 c = omega (arith, r-is c)
+
+add-size-at : tie.Need-add-size-at
+unfolding lineAfter
+add-size-at c = omega arith
+
+size-at-requires-2 : tie.Need-size-at-requires-2
+unfolding lineAfter
+size-at-requires-2 c κs = omega arith
+
+larger-requires : tie.Need-larger-requires
+larger-requires c κs = search needs
+
+returns : tie.Need-returns
+unfolding lineAfter
+returns c =
+    let s = c .before .before .before .before .before .before .before in
+    let ws = s .args .b .now in
+    record {
+      no-is = c .before .before .before .before .lower .ensures;
+      at-is = ap (λ n. s .args .w .at + 1 + n) (r-is (c .before .before .before));
+      largest-is =
+          c .larger .ensures
+          ∙ ap (λ n. max (s .args .w .largest) n)
+          (c .before .size-at2 .ensures .is ∙ ap natAbs (right-is ws (s .args .z) (s .pre .1) (s .args .w .at) _ (omega arith)));
+    }
+
+pub advance-spec : {M : Type 1} → statement M
+advance-spec =
+    tie.close
+    (tie.spec
+    add-at
+    add-at-2
+    add-at-3
+    lower-requires
+    add-t7
+    size-at-requires
+    add-t10
+    add-size-at
+    size-at-requires-2
+    larger-requires
+    returns)
