@@ -1,13 +1,13 @@
 -- The entries of a list, and the order of a list's elements by how many come before each. For any lists and any strict order that is total on the
 -- list's elements.
 -- Assumes nothing.
-use mathlib.Core.Path.{_≡_, refl, sym, _∙_, subst}
+use mathlib.Core.Path.{_≡_, refl, subst}
 use mathlib.Core.Bool.{Bool, true, false}
-use mathlib.Core.Logic.{_⊎_, inl, inr, _↔_}
-use mathlib.Core.List.{List, [], _∷_}
+use mathlib.Core.Logic.{inl, inr, _↔_}
+use mathlib.Core.List.{List, [], _∷_, map}
 use mathlib.Core.Option.{some}
 use Prim.Native.Nat.{ℕ, zero, suc, _+_, _≤_, _<_}
-use native.Mathlib.Nat.{lt-trichotomy}
+use native.Mathlib.Decide.{decLt}
 use native.Mathlib.Omega.{arith}
 use lib.Dec.{T}
 use lib.ListN.{length, getElem?, take}
@@ -46,6 +46,12 @@ module _ {A : Type 0} where
   count-none test [] h = refl
   count-none test (x ∷ xs) h = rw (h x (inl refl)) (omega (arith, count-none test xs (λ y i. h y (inr i))))
 
+module _ {A B : Type 0} where
+  pub map-at : (f : A → B) (s : List A) (j : ℕ) (x : A) → getElem? s j ≡ some x → getElem? (map f s) j ≡ some (f x)
+  map-at f [] j x e = let z : _≡_ {A = ℕ} 0 1 = cc in absurd (omega arith)
+  map-at f (y ∷ ys) zero x e = let q : y ≡ x = cc in rw q
+  map-at f (y ∷ ys) (suc j) x e = map-at f ys j x e
+
 module _ {A : Type 0} (lt : A → A → Bool) (S : Strict lt) (xs : List A) (a : Apart xs) (t : Total lt xs) where
   abbrev rankOf : A → ℕ
   rankOf x = count (λ y. lt y x) xs
@@ -56,15 +62,23 @@ module _ {A : Type 0} (lt : A → A → Bool) (S : Strict lt) (xs : List A) (a :
 
   -- an element is before another exactly if fewer elements come before it
   pub by-rank : (x y : A) → In x xs → In y xs → T (lt x y) ↔ (count (λ z. lt z x) xs < count (λ z. lt z y) xs)
-  by-rank x y i j = (to (lt-trichotomy (rankOf x) (rankOf y)), from x y i j)
+  by-rank x y i j = (to (decLt (rankOf x) (rankOf y)) (decLt (rankOf y) (rankOf x)), from x y i j)
     where
       from : (x y : A) → In x xs → In y xs → rankOf x < rankOf y → T (lt x y)
       from x y i j h =
           listed-after lt S (suc (rankOf y)) xs a t (rankOf x) (rankOf y) x y h (at-rank (suc (rankOf y)) x i (omega arith))
           (at-rank (suc (rankOf y)) y j (omega arith))
 
+      same : rankOf x ≡ rankOf y → x ≡ y
+      same e =
+          let h : getElem? (take (suc (rankOf y)) (sorted lt xs)) (rankOf x) ≡ some x = at-rank (suc (rankOf y)) x i (omega arith) in
+          let k : getElem? (take (suc (rankOf y)) (sorted lt xs)) (rankOf y) ≡ some y = at-rank (suc (rankOf y)) y j (omega arith) in
+          cc
+
       never : (z : A) → T (lt z z) → ⊥
       never z h = subst T (S .irrefl z) h
 
-      to : ? → T (lt x y) → rankOf x < rankOf y
-      to = ?
+      to : Dec (rankOf x < rankOf y) → Dec (rankOf y < rankOf x) → T (lt x y) → rankOf x < rankOf y
+      to (yes h) d l = h
+      to (no h) (yes k) l = absurd (never x (S .trans x y x l (from y x j i k)))
+      to (no h) (no k) l = absurd (never y (subst (λ z. T (lt z y)) (same (omega arith)) l))

@@ -1,15 +1,16 @@
 -- What the thirteen questions say of a book that passes them all: of its sizes, of each state p, and of each action c of state p.
 -- Assumes nothing.
-use mathlib.Core.Path.{_≡_, refl, sym, ap, _∙_, subst}
-use mathlib.Core.Bool.{Bool, true, false, _&&_, cond}
+use mathlib.Core.Path.{_≡_, refl, sym, _∙_}
+use mathlib.Core.Bool.{Bool, true, false, cond}
 use Prim.Native.Nat.{ℕ, zero, suc, _+_, _*_, _^_, _≤_, _<_}
 use native.Mathlib.Nat.{le-trans}
 use native.Mathlib.Omega.{arith}
 use borrow.Author.Tests.{leb-true, eqb-true, eq-eqb, ne-eqb}
 use lib.Dec.{leb, eqb}
-use lib.IntN.{ℤ, pos, natAbs}
+use lib.IntN.{pos, natAbs}
 use Rattle.model.specs.Lists.{all, maxTo}
-use Rattle.model.specs.Model.{Words, word, scale, horizon, lineCount, stateCount, stage, actionCount, left, right, branches, lineAfter, stateLine, actionLine}
+use Rattle.model.specs.Model.{Words, word, scale, horizon, lineCount, stateCount, stage, actionCount, left, right}
+use Rattle.model.specs.Model.{branches, lineAfter, stateLine, actionLine}
 use Rattle.model.specs.Questions.{firstNo, andThen, inside, mostActions, countsAllowed, everyAction, branchesAllowed, linesAllowed, costAllowed}
 use Rattle.model.specs.Questions.{nextsAllowed, weightsAllowed, largestCost, costsBounded, sizeQuestions, actionQuestions, bookNumber}
 use Rattle.questions.specs.Ranges.{and-true, all-at, max-least, inside-range}
@@ -30,11 +31,11 @@ pub record Accepted (ws : Words) : Type 0 where
   pub branches-last : (p c : ℕ) → p < stateCount ws → c < actionCount ws p → stage ws p ≡ horizon ws → branches ws (actionLine ws p c) ≡ 0
   pub lines-fit : (p c : ℕ) → p < stateCount ws → c < actionCount ws p → lineAfter ws (actionLine ws p c) ≤ lineCount ws
   pub lines-used : stateLine ws (stateCount ws) ≡ lineCount ws
-  -- 10
+  -- 10: "Is every cost allowed?"
   pub cost-allowed : (p c : ℕ) → p < stateCount ws → c < actionCount ws p → costAllowed ws (stage ws p) (actionLine ws p c) ≡ true
-  -- 11
+  -- 11: "Do the next posts of each choice rise strictly and lie within the next stage?"
   pub nexts-allowed : (p c : ℕ) → p < stateCount ws → c < actionCount ws p → nextsAllowed ws (stage ws p) (actionLine ws p c) ≡ true
-  -- 12
+  -- 12: "Is every weight from 1 to D, and does each choice's sum to exactly D (before stage H)?"
   pub weights-allowed : (p c : ℕ) → p < stateCount ws → c < actionCount ws p → weightsAllowed ws (stage ws p) (actionLine ws p c) ≡ true
   -- 13: "Is D^H × (H + 1) × (largest cost without its sign) at most 4 × 10^18?"
   pub cost-bounded : (p c : ℕ) → p < stateCount ws → c < actionCount ws p → natAbs (right ws (actionLine ws p c)) ≤ largestCost ws
@@ -47,9 +48,9 @@ and-then (suc m) n e = absurd (omega arith)
 
 -- ---- 8
 
-most-before : (ws : Words) (n : ℕ) → mostActions ws n ≤ 8
+most-bound : (ws : Words) (n : ℕ) → mostActions ws n ≤ 8
 unfolding mostActions
-most-before ws n = go (eqb n (horizon ws))
+most-bound ws n = go (eqb n (horizon ws))
   where
     go : (b : Bool) → cond b 1 8 ≤ 8
     go true = omega arith
@@ -69,7 +70,7 @@ count-range ws e p l =
 -- ---- 9 to 12
 
 -- a test of every action is one of each
-pub each-action : (test : Words → ℕ → ℕ → Bool) (ws : Words) → everyAction test ws ≡ true
+each-action : (test : Words → ℕ → ℕ → Bool) (ws : Words) → everyAction test ws ≡ true
     → (p c : ℕ) → p < stateCount ws → c < actionCount ws p → test ws (stage ws p) (actionLine ws p c) ≡ true
 unfolding everyAction
 each-action test ws e p c l k =
@@ -121,7 +122,7 @@ accepted ws ok =
     record {
       sizes = sized ws (both .0);
       counts-low = λ p l. count-range ws (y .0) p l .0;
-      counts-high = λ p l. le-trans (count-range ws (y .0) p l .1) (most-before ws (stage ws p));
+      counts-high = λ p l. le-trans (count-range ws (y .0) p l .1) (most-bound ws (stage ws p));
       counts-last = λ p l e. omega (arith, count-range ws (y .0) p l, most-last ws (stage ws p) e);
       branches-allowed = nine;
       branches-before = λ p c l k. some-branches ws (stage ws p) (actionLine ws p c) (nine p c l k);

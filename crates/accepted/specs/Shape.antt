@@ -4,13 +4,12 @@
 use mathlib.Core.Path.{_≡_, refl, sym, ap, _∙_, subst}
 use mathlib.Core.Bool.{Bool, true, false, _&&_, _||_, cond}
 use mathlib.Core.Logic.{_⊎_, inl, inr, _↔_}
-use mathlib.Core.List.{List, [], _∷_, map}
+use mathlib.Core.List.{[], _∷_, map}
 use Prim.Native.Nat.{ℕ, zero, suc, _+_, _-_, _≤_, _<_}
 use native.Mathlib.Nat.{eq-or-lt-of-le, add-zero}
 use native.Mathlib.Omega.{arith}
-use native.Mathlib.Decide.{decLt}
 use borrow.Author.Tests.{ltb-true, leb-true, eqb-true, lt-ltb, ne-eqb}
-use lib.Dec.{T, eqb, ltb, ltb→lt}
+use lib.Dec.{T, eqb, ltb}
 use lib.IntN.{ℤ, pos, negsuc, natAbs}
 use lib.Signed.{leZ, ltZ}
 use Rattle.model.specs.Lists.{all, sumTo, upFrom}
@@ -19,8 +18,7 @@ use Rattle.model.specs.Model.{branches, actionLine, transitionAt, readAction, n
 use Rattle.model.specs.Questions.{inside, nextBefore, nextsAllowed, weightSum, weightsAllowed, largestCost, bookNumber}
 use Rattle.model.specs.Policy.{Policy, isPolicy}
 use Rattle.model.specs.Path.{byteAt, taken}
-use Rattle.laws.specs.Members.{T-true, true-T, In, Every, in-every, every-imp, every-both, in-map, Rising, upFrom-in, in-upFrom, upFrom-rising}
-use Rattle.laws.specs.Members.{AtNexts}
+use Rattle.laws.specs.Members.{In, Every, in-every, every-imp, every-both, in-map, Rising, upFrom-in, in-upFrom, upFrom-rising, AtNexts}
 use Rattle.laws.specs.Paths.{weightsOf, Full}
 use Rattle.laws.specs.Best.{Obeys}
 use Rattle.laws.specs.Policies.{IsPolicy, fits-is}
@@ -149,12 +147,12 @@ no-weight ws j e = rw e
 -- ---- an accepted book
 
 module _ (ws : Words) (ok : bookNumber ws ≡ 0) where
-  book : Accepted ws
-  book = accepted ws ok
+  facts : Accepted ws
+  facts = accepted ws ok
 
   -- stage 0 has state 0 alone
   first-one : firstState ws 1 ≡ 1
-  first-one = omega (arith, first-step ws 0, first-zero ws, book .sizes .one)
+  first-one = omega (arith, first-step ws 0, first-zero ws, facts .sizes .one)
 
   some-state : 0 < stateCount ws
   unfolding stateCount
@@ -164,15 +162,14 @@ module _ (ws : Words) (ok : bookNumber ws ≡ 0) where
   pub togo-start : togo ws 0 ≡ horizon ws
   unfolding togo
   togo-start =
-      let e : stage ws 0 ≡ 0 = stage-is ws 0 0 (record { within = omega arith; from = omega (arith, first-zero ws); to = omega (arith, first-one) }) in
-      omega arith
+      omega (arith, stage-is ws 0 0 (record { within = omega arith; from = omega (arith, first-zero ws); to = omega (arith, first-one) }))
 
   -- a next state q of state p: it is later, it is a state of the model, and it is one stage on
-  abbrev Onward : ℕ → ℕ → Type 0
-  Onward p q = (p < q) × (q < stateCount ws) × (togo ws p ≡ suc (togo ws q))
+  abbrev NextOf : ℕ → ℕ → Type 0
+  NextOf p q = (p < q) × (q < stateCount ws) × (togo ws p ≡ suc (togo ws q))
 
   stage-on : (p v : ℕ) → p < stateCount ws → stage ws p < horizon ws → v < stageSize ws (stage ws p + 1)
-      → Onward p (firstState ws (stage ws p + 1) + v)
+      → NextOf p (firstState ws (stage ws p + 1) + v)
   unfolding stateCount togo
   stage-on p v l h k = (
     omega (arith, here .to),
@@ -197,28 +194,28 @@ module _ (ws : Words) (ok : bookNumber ws ≡ 0) where
   before-last p c i l k b = go (eq-or-lt-of-le (of-stage ws p l .within))
     where
       go : (stage ws p ≡ horizon ws) ⊎ (stage ws p < horizon ws) → stage ws p < horizon ws
-      go (inl e) = absurd (omega (arith, book .branches-last p c l k e))
+      go (inl e) = absurd (omega (arith, facts .branches-last p c l k e))
       go (inr h) = h
 
-  next-states : (p c : ℕ) → AtNexts (Onward p) (action ws p c .transitions)
+  next-states : (p c : ℕ) → AtNexts (NextOf p) (action ws p c .transitions)
   unfolding transitionAt
   next-states p c =
-      by-action ws (λ (a : Action). AtNexts (Onward p) (a .transitions)) p c tt
-      (λ l k. every-read ws (λ (t : Transition). Onward p (t .next)) (stage ws p) (actionLine ws p c)
+      by-action ws (λ (a : Action). AtNexts (NextOf p) (a .transitions)) p c tt
+      (λ l k. every-read ws (λ (t : Transition). NextOf p (t .next)) (stage ws p) (actionLine ws p c)
       (λ i b. stage-on p (natAbs (left ws (actionLine ws p c + 1 + i))) l (before-last p c i l k b)
-      (next-range ws (stage ws p) (actionLine ws p c) (book .nexts-allowed p c l k) i b .1)))
+      (next-range ws (stage ws p) (actionLine ws p c) (facts .nexts-allowed p c l k) i b .1)))
 
   weights-positive : (p c : ℕ) → Every (λ (t : Transition). 0 < t .weight) (action ws p c .transitions)
   unfolding transitionAt
   weights-positive p c =
       by-action ws (λ (a : Action). Every (λ (t : Transition). 0 < t .weight) (a .transitions)) p c tt
       (λ l k. every-read ws (λ (t : Transition). 0 < t .weight) (stage ws p) (actionLine ws p c)
-      (λ i b. weight-range ws (stage ws p) (actionLine ws p c) (book .weights-allowed p c l k) i b .0))
+      (λ i b. weight-range ws (stage ws p) (actionLine ws p c) (facts .weights-allowed p c l k) i b .0))
 
   -- no state has an action 255
   no-action : (p : ℕ) → action ws p 255 .transitions ≡ []
   no-action p =
-      by-action ws (λ (a : Action). a .transitions ≡ []) p 255 refl (λ l k. absurd (omega (arith, book .counts-high p l)))
+      by-action ws (λ (a : Action). a .transitions ≡ []) p 255 refl (λ l k. absurd (omega (arith, facts .counts-high p l)))
 
   pub shape : Shape (stateCount ws) (action ws) (togo ws)
   shape = record {
@@ -234,7 +231,7 @@ module _ (ws : Words) (ok : bookNumber ws ≡ 0) where
   lists = record {
     rising = options-rising ws;
     first-alive = some-state;
-    some-action = λ p l. (0, below-options ws p 0 (book .counts-low p l));
+    some-action = λ p l. (0, below-options ws p 0 (facts .counts-low p l));
     stays-alive = λ p c l i. shape .inside p c;
   }
 
@@ -243,7 +240,7 @@ module _ (ws : Words) (ok : bookNumber ws ≡ 0) where
       → weightsOf (action ws p c .transitions) ≡ scale ws
   weights-full p c l k h =
       rw (action-is ws p c l k, weights-read ws (stage ws p) (actionLine ws p c))
-      (weight-sum ws (stage ws p) (actionLine ws p c) (book .weights-allowed p c l k) h)
+      (weight-sum ws (stage ws p) (actionLine ws p c) (facts .weights-allowed p c l k) h)
 
   -- of any state and action, the weights add to at most D
   pub weights-bound : (p c : ℕ) → weightsOf (action ws p c .transitions) ≤ scale ws
@@ -253,13 +250,13 @@ module _ (ws : Words) (ok : bookNumber ws ≡ 0) where
     where
       go : p < stateCount ws → c < actionCount ws p → (stage ws p ≡ horizon ws) ⊎ (stage ws p < horizon ws)
           → weightSum ws (actionLine ws p c) ≤ scale ws
-      go l k (inl e) = omega (arith, no-weight ws (actionLine ws p c) (book .branches-last p c l k e))
-      go l k (inr h) = omega (arith, weight-sum ws (stage ws p) (actionLine ws p c) (book .weights-allowed p c l k) h)
+      go l k (inl e) = omega (arith, no-weight ws (actionLine ws p c) (facts .branches-last p c l k e))
+      go l k (inr h) = omega (arith, weight-sum ws (stage ws p) (actionLine ws p c) (facts .weights-allowed p c l k) h)
 
   -- and the cost is at most the largest
   pub cost-bound : (p c : ℕ) → natAbs (action ws p c .cost) ≤ largestCost ws
   unfolding readAction
-  cost-bound p c = by-action ws (λ (a : Action). natAbs (a .cost) ≤ largestCost ws) p c (omega arith) (book .cost-bounded p c)
+  cost-bound p c = by-action ws (λ (a : Action). natAbs (a .cost) ≤ largestCost ws) p c (omega arith) (facts .cost-bounded p c)
 
   -- before stage H the weights of each action that a policy takes add to D
   full-from : (bs : Policy) (m p : ℕ) → p < stateCount ws → togo ws p ≡ m → Obeys (action ws) (options ws) (byteAt bs) m p
@@ -268,7 +265,8 @@ module _ (ws : Words) (ok : bookNumber ws ≡ 0) where
   full-from bs zero p l e o = tt
   full-from bs (suc m) p l e o = (
     weights-full p (byteAt bs p) l (options-below ws p (o .0)) (omega arith),
-    every-both (λ t r n. full-from bs m (t .next) (n .1) (omega arith) r) (action ws p (byteAt bs p) .transitions) (o .1) (next-states p (byteAt bs p)),
+    every-both (λ t r n. full-from bs m (t .next) (n .1) (omega arith) r) (action ws p (byteAt bs p) .transitions) (o .1)
+        (next-states p (byteAt bs p)),
   )
 
   pub full : (bs : Policy) → T (isPolicy ws bs) → Full (scale ws) (taken ws bs) (horizon ws) 0

@@ -1,2 +1,3 @@
 pub mod Words
 pub mod Stages
+pub mod Columns

@@ -1,11 +1,10 @@
 -- The stage that a loop over the states carries.
 -- Assumes nothing.
-use mathlib.Core.Path.{_≡_, refl, sym, ap, _∙_, subst}
-use Prim.Native.Nat.{ℕ, _+_, _≤_, _<_}
-use native.Mathlib.Nat.{zero-add}
+use mathlib.Core.Path.{_≡_}
+use Prim.Native.Nat.{ℕ, _+_}
 use native.Mathlib.Omega.{arith}
-use Rattle.model.specs.Model.{Words, firstState, stage}
-use Rattle.questions.specs.Stages.{OfStage, stage-is, first-zero, first-step}
+use Rattle.model.specs.Model.{Words, stage}
+use Rattle.questions.specs.Stages.{stage-is, first-zero, first-step}
 use Rattle.questions.specs.Sizes.{Sized}
 use Rattle.book.specs.Read.{StageNear, StageFor}
 use Rattle.book.specs.declared.Stage.{Stage}

@@ -1,15 +1,14 @@
 -- The number of a book by the parts that answer its questions.
 -- Assumes nothing.
-use mathlib.Core.Path.{_≡_, refl, sym, ap, _∙_}
+use mathlib.Core.Path.{_≡_, refl, ap, _∙_}
 use mathlib.Core.Bool.{Bool, true, false}
-use mathlib.Core.List.{List, [], _∷_}
 use Prim.Native.Nat.{ℕ, zero, suc}
 use native.Mathlib.Omega.{arith}
 use lib.ListN.{drop}
 use Rattle.model.specs.Model.{Words}
 use Rattle.model.specs.Questions.{firstNo, andThen, countsAllowed, everyAction, linesAllowed, costAllowed, nextsAllowed, weightsAllowed, costsBounded, sizeQuestions, actionQuestions, bookNumber}
 use Rattle.questions.specs.FirstNo.{passes, fails, none, after}
-use Rattle.check_book.specs.Walk.{code}
+use Rattle.actions.specs.Action.{code}
 
 and-then-no : (n m : ℕ) → (n ≡ 0 → ⊥) → andThen n m ≡ n
 and-then-no zero m h = absurd (h refl)

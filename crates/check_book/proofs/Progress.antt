@@ -1,19 +1,19 @@
 -- How the walk's findings grow by one action and by one state, and what they come to.
 -- Assumes nothing.
-use mathlib.Core.Path.{_≡_, refl, sym, ap, ap₂, _∙_, subst}
+use mathlib.Core.Path.{_≡_, refl, sym, ap, ap₂, _∙_}
 use mathlib.Core.Bool.{Bool, true, false, _&&_}
-use mathlib.Core.Logic.{_⊎_, inl, inr}
-use Prim.Native.Nat.{ℕ, zero, suc, _+_, _≤_, _<_, max}
+use mathlib.Core.Logic.{inl, inr}
+use Prim.Native.Nat.{ℕ, _+_, _<_, max}
 use native.Mathlib.Numerals.{add-one}
 use native.Mathlib.Omega.{arith}
-use borrow.Author.Tests.{eq-eqb, ne-eqb, leb-true}
+use borrow.Author.Tests.{eq-eqb, ne-eqb}
 use lib.IntN.{natAbs}
-use lib.Dec.{leb, eqb}
 use Rattle.model.specs.Lists.{all, maxTo}
 use Rattle.model.specs.Model.{Words, lineCount, stateCount, stage, actionCount, right, lineAfter, skip, stateLine, actionLine}
 use Rattle.model.specs.Questions.{everyAction, branchesAllowed, linesAllowed, costAllowed, nextsAllowed, weightsAllowed, largestCost}
-use Rattle.questions.specs.Ranges.{and-true, all-step, max-step, all-fails}
-use Rattle.check_book.specs.Walk.{code, lowest, actionNumber, partly, partLargest, Advanced, Progress, Stopped, Walked, Finished}
+use Rattle.questions.specs.Ranges.{all-step, max-step, all-fails}
+use Rattle.actions.specs.Action.{code, actionNumber}
+use Rattle.check_book.specs.Walk.{lowest, partly, partLargest, Advanced, Progress, Stopped, Walked, Finished}
 use Rattle.check_book.specs.declared.Walk.{Walk}
 use Rattle.check_book.proofs.Steps.{code-both}
 

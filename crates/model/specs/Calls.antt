@@ -2,19 +2,18 @@
 -- figure, and writes no byte. Success writes the stated front of a slice and leaves the rest as before."
 -- Assumes nothing.
 use Prim.Native.Nat.{ℕ, zero, suc, _+_, _*_, _^_}
-use mathlib.Core.Bool.{Bool, true, false, _&&_, cond}
+use mathlib.Core.Bool.{_&&_, cond}
 use mathlib.Core.List.{List, [], _∷_, _++_}
 use lib.IntN.{ℤ, pos}
-use lib.Dec.{eqb, leb, ltb}
+use lib.Dec.{leb, ltb}
 use lib.ListN.{length, take, drop}
 use Rattle.model.specs.Lists.{forEach}
 use Rattle.model.specs.Model.{Words, stateCount}
 use Rattle.model.specs.Questions.{Question, firstNo, andThen, bookNumber}
 use Rattle.model.specs.Policy.{Policy, isPolicy}
 use Rattle.model.specs.Path.{policyCost}
-use Rattle.model.specs.Recursion.{leastCostToGo}
 use Rattle.model.specs.Order.{ranking, rankingCosts}
-use Rattle.model.specs.Record.{recordBytes, carriedLength, carriedCount, carriedBook, listStart, countQuestions, acceptNumber}
+use Rattle.model.specs.Record.{recordBytes, carriedCount, carriedBook, listStart, countQuestions, acceptNumber}
 
 -- what goes with the number 0, and what with any other
 abbrev pub ifAccepted : {A : Type 0} → ℕ → A → A → A

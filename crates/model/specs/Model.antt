@@ -3,8 +3,8 @@
 -- Document 01's terms: model = book, state = post, action = choice, transition = line (below a choice's first), policy = plan, sample path = day.
 -- Assumes nothing.
 use Prim.Native.Nat.{ℕ, zero, suc, _+_, _-_}
-use mathlib.Core.Bool.{Bool, true, false, _&&_, cond}
-use mathlib.Core.List.{List, [], _∷_, map}
+use mathlib.Core.Bool.{_&&_, cond}
+use mathlib.Core.List.{List, [], map}
 use lib.IntN.{ℤ, pos, natAbs}
 use lib.Dec.{leb, ltb}
 use lib.ListN.{getD}

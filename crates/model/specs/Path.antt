@@ -1,7 +1,7 @@
 -- The sample paths of a policy (document 01: the days of a plan), and its cost: the sum over all of them of weight × cost.
 -- Assumes nothing.
 use Prim.Native.Nat.{ℕ, zero, suc, _+_, _*_}
-use mathlib.Core.List.{List, [], _∷_, _++_, map}
+use mathlib.Core.List.{List, [], _∷_, map}
 use lib.IntN.{ℤ, pos, _+ℤ_, _*ℤ_}
 use lib.ListN.{getD}
 use Rattle.model.specs.Lists.{forEach}

@@ -5,7 +5,7 @@ use mathlib.Core.Bool.{Bool, true, false, _&&_, _||_, cond}
 use mathlib.Core.List.{List, [], _∷_, _++_}
 use lib.IntN.{ℤ, pos, negsuc, natAbs}
 use lib.Signed.{leZ, ltZ}
-use lib.Dec.{eqb, leb, ltb}
+use lib.Dec.{eqb, leb}
 use lib.ListN.{length}
 use Rattle.model.specs.Lists.{all, sumTo, maxTo}
 use Rattle.model.specs.Model.{Words, word, scale, horizon, lineCount, stageSize, stateCount, stage, actionCount, left, right, branches, lineAfter, stateLine, actionLine}

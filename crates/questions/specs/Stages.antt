@@ -1,9 +1,8 @@
 -- Stages: a state that lies between a stage's first state and the next stage's first is of that stage.
 -- Assumes nothing.
-use mathlib.Core.Path.{_≡_, refl, sym, ap, _∙_, subst}
-use mathlib.Core.Bool.{Bool, true, false}
+use mathlib.Core.Path.{_≡_, refl, sym, _∙_, subst}
 use mathlib.Core.Logic.{_⊎_, inl, inr}
-use Prim.Native.Nat.{ℕ, zero, suc, _+_, _*_, _-_, _≤_, _<_}
+use Prim.Native.Nat.{ℕ, zero, suc, _+_, _-_, _≤_, _<_}
 use native.Mathlib.Nat.{eq-or-lt-of-le}
 use native.Mathlib.Decide.{decLt}
 use native.Mathlib.Numerals.{add-one}
@@ -11,7 +10,7 @@ use native.Mathlib.Omega.{arith}
 use borrow.Author.Tests.{le-leb, lt-leb}
 use lib.Dec.{leb}
 use Rattle.model.specs.Lists.{sumTo, bit}
-use Rattle.model.specs.Model.{Words, horizon, stageSize, firstState, stateCount, stage, togo}
+use Rattle.model.specs.Model.{Words, horizon, stageSize, firstState, stateCount, stage}
 use Rattle.questions.specs.Ranges.{sum-mono, sum-step}
 
 pub first-mono : (ws : Words) (m n : ℕ) → m ≤ n → firstState ws m ≤ firstState ws n

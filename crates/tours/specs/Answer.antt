@@ -1,6 +1,6 @@
 -- A call with its arguments, and all that it gives, by the definitions of crate model.
 -- Assumes nothing.
-use Prim.Native.Nat.{ℕ, zero, suc}
+use Prim.Native.Nat.{ℕ}
 use mathlib.Core.List.{List}
 use lib.IntN.{ℤ}
 use lib.ListN.{length}
@@ -8,7 +8,7 @@ use Rattle.model.specs.Model.{Words}
 use Rattle.model.specs.Questions.{bookNumber}
 use Rattle.model.specs.Policy.{Policy}
 use Rattle.model.specs.Order.{ranking, rankingCosts}
-use Rattle.model.specs.Record.{recordBytes, acceptNumber}
+use Rattle.model.specs.Record.{acceptNumber}
 use Rattle.model.specs.Page.{page}
 use Rattle.model.specs.Calls.{ifAccepted, Room, valueNumber, valueCost, leastCost, rankNumber, writeNumber, writeRecord, acceptStates, acceptCount}
 

@@ -1,22 +1,22 @@
 -- The twelve tours of document 01: one table of calls and answers, and one proof, by computation, that the definitions yield them.
 -- Assumes nothing.
-use Prim.Native.Nat.{ℕ, zero, suc, _+_, _*_}
+use Prim.Native.Nat.{ℕ, _+_, _*_}
 use mathlib.Core.Path.{_≡_, refl}
 use mathlib.Core.List.{List, [], _∷_, _++_, map}
-use lib.IntN.{ℤ, pos, negsuc}
+use lib.IntN.{pos, negsuc}
 use lib.ListN.{set, replicate}
 use Rattle.model.specs.Lists.{forEach}
 use Rattle.model.specs.Bytes.{bytes, signedBytes}
 use Rattle.model.specs.Model.{Words, word, scale, horizon, lineCount, stageSize, firstState, stateCount, stage, togo, actionCount, left, right, branches, lineAfter, skip, stateLine, actionLine, transitionAt, readAction, action, options}
 use Rattle.model.specs.Questions.{firstNo, sizesAllowed, lengthAllowed, mostActions, countsAllowed, everyAction, branchesAllowed, linesAllowed, costAllowed, nextsAllowed, weightSum, weightsAllowed, largestCost, costsBounded, bookNumber}
-use Rattle.model.specs.Policy.{Policy, isPolicy, policies}
+use Rattle.model.specs.Policy.{isPolicy, policies}
 use Rattle.model.specs.Path.{taken, paths, policyCost}
 use Rattle.model.specs.Recursion.{leastCostToGo}
 use Rattle.model.specs.Order.{comesBefore, ranking, rankingCosts}
 use Rattle.model.specs.Record.{listBytes, recordBytes, carriedLength, carriedK, carriedCount, carriedBook, listStart, acceptNumber}
 use Rattle.model.specs.Page.{policyLine, policyLines, titleLine, bookPage, page}
 use Rattle.model.specs.Calls.{Room, valueNumber, valueCost, leastCost, rankNumber, rankCount, rankCosts, rankPlans, writeNumber, writeLength, writeRecord, acceptStates, acceptCount}
-use Rattle.tours.specs.Answer.{Call, check, value, least, rank, write, accept, print, Answer, refused, good, cost, listed, slice, record-of, printed, answer}
+use Rattle.tours.specs.Answer.{Call, check, value, rank, write, accept, print, Answer, refused, good, listed, slice, record-of, printed, answer}
 
 -- ---- the books
 

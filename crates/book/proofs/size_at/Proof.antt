@@ -1,7 +1,6 @@
 -- The word that is read is the word sized.
 -- Assumes nothing.
 use borrow.Author.Needs.{needs}
-use native.Mathlib.Omega.{arith}
 use Rattle.model.specs.Model.{word}
 use Rattle.book.proofs.Words.{read32}
 use Rattle.book.proofs.size_at.Statement.{statement}

@@ -1,14 +1,13 @@
 -- Where p is the first state after stage n, it is of stage n + 1, which has a state.
 -- Assumes nothing.
 use borrow.Author.Needs.{needs}
-use mathlib.Core.Path.{_≡_, refl, sym, ap, _∙_, subst}
-use Prim.Native.Nat.{ℕ, suc, _+_, _≤_, _<_}
+use mathlib.Core.Path.{_≡_, sym, _∙_}
+use Prim.Native.Nat.{ℕ, _+_, _≤_, _<_}
 use native.Mathlib.Omega.{arith}
 use native.Mathlib.Decide.{decLt}
 use lib.IntN.{natAbs}
 use Rattle.model.specs.Model.{Words, word, horizon, stageSize, firstState, stateCount}
 use Rattle.questions.specs.Stages.{first-step, first-mono}
-use Rattle.questions.specs.Sizes.{Sized}
 use Rattle.book.proofs.stage_for.Statement.{statement}
 use Rattle.book.proofs.stage_for.Tie as tie
 

@@ -1,11 +1,11 @@
 -- The words read are those of the action's first line.
 -- Assumes nothing.
-use mathlib.Core.Path.{_≡_, refl, sym, ap, ap₂, _∙_}
+use mathlib.Core.Path.{_≡_, ap, _∙_}
 use Prim.Native.Nat.{_+_, max}
 use lib.IntN.{natAbs}
 use native.Mathlib.Omega.{arith}
 use Rattle.model.specs.Model.{branches, lineAfter}
-use Rattle.check_book.proofs.Steps.{branches-are, right-is}
+use Rattle.book.proofs.Columns.{branches-are, right-is}
 use borrow.Author.Needs.{needs}
 use Rattle.check_book.proofs.advance.Statement.{statement}
 use Rattle.check_book.proofs.advance.Tie as tie

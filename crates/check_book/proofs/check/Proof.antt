@@ -1,13 +1,13 @@
 -- Each return is the first question that is answered no: those before it were passed on the way.
 -- Assumes nothing.
-use mathlib.Core.Path.{_≡_, refl, sym, ap, ap₂, _∙_, subst}
+use mathlib.Core.Path.{_≡_, sym, _∙_}
 use mathlib.Core.Bool.{true}
 use native.Mathlib.Omega.{arith}
 use borrow.Author.Tests.{not-true, not-false}
 use Rattle.model.specs.Questions.{firstNo, countsAllowed, everyAction, linesAllowed, costAllowed, nextsAllowed, weightsAllowed, costsBounded, sizeQuestions}
-use Rattle.questions.specs.Sizes.{Sized, sized}
+use Rattle.questions.specs.Sizes.{sized}
 use Rattle.book.proofs.Words.{no, yes′}
-use Rattle.check_book.specs.Walk.{code}
+use Rattle.actions.specs.Action.{code}
 use Rattle.check_book.proofs.Numbers.{of-sizes, of-counts, of-walk, of-bound, of-all}
 use borrow.Author.Needs.{needs}
 use Rattle.check_book.proofs.check.Statement.{statement}

@@ -1,6 +1,6 @@
 -- The unit is d^h × (h + 1), which is at least 1 and fits.
 -- Assumes nothing.
-use mathlib.Core.Path.{_≡_, refl, sym, ap, _∙_}
+use mathlib.Core.Path.{_≡_, _∙_}
 use Prim.Native.Nat.{ℕ, _+_, _*_, _^_, _≤_}
 use native.Mathlib.Omega.{arith}
 use Rattle.check_book.proofs.Bound.{power-is, unit-high, unit-low, by-division}

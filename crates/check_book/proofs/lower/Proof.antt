@@ -2,7 +2,6 @@
 -- Assumes nothing.
 use native.Mathlib.Omega.{arith}
 use Rattle.check_book.proofs.Steps.{lowest-left, lowest-both}
-use borrow.Author.Needs.{needs}
 use Rattle.check_book.proofs.lower.Statement.{statement}
 use Rattle.check_book.proofs.lower.Tie as tie
 

@@ -1,13 +1,12 @@
 -- The walk has passed every action of the states below p, and t is the stage of the last of them.
 -- Assumes nothing.
-use mathlib.Core.Path.{_≡_, refl, sym, ap, ap₂, _∙_, subst}
-use mathlib.Core.Logic.{_⊎_, inl, inr}
+use mathlib.Core.Path.{_≡_, refl, sym, _∙_, subst}
 use Prim.Native.Nat.{_-_, _≤_}
 use native.Mathlib.Omega.{arith}
-use Rattle.model.specs.Model.{lineCount, stateCount}
+use Rattle.model.specs.Model.{stateCount}
 use Rattle.book.specs.Read.{StageNear}
 use Rattle.book.proofs.Stages.{start-near, for-stage, next-near}
-use Rattle.check_book.specs.Walk.{Progress, Stopped}
+use Rattle.check_book.specs.Walk.{Progress}
 use Rattle.check_book.proofs.Progress.{begin, next-state, finish, too-short, stopped-at, goes-on}
 use borrow.Author.Needs.{needs}
 use Rattle.check_book.proofs.walk_lines.Statement.{statement}

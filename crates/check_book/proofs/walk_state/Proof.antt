@@ -1,12 +1,14 @@
 -- The walk has passed the first c actions of state p.
 -- Assumes nothing.
-use mathlib.Core.Path.{_≡_, refl, sym, ap, ap₂, _∙_, subst}
-use mathlib.Core.Logic.{_⊎_, inl, inr}
+use mathlib.Core.Path.{_≡_, refl, sym, ap₂, _∙_, subst}
+use mathlib.Core.Logic.{inl, inr}
 use Prim.Native.Nat.{_-_, _≤_}
 use native.Mathlib.Omega.{arith}
-use Rattle.model.specs.Model.{stage, actionCount, actionLine, lineAfter}
-use Rattle.check_book.specs.Walk.{actionNumber, Progress, Stopped}
-use Rattle.check_book.proofs.Steps.{count-is, fit-bound}
+use Rattle.model.specs.Model.{stage, actionCount, actionLine}
+use Rattle.check_book.specs.Walk.{Progress}
+use Rattle.actions.specs.Action.{actionNumber}
+use Rattle.book.proofs.Columns.{count-is}
+use Rattle.actions.proofs.Steps.{fit-bound}
 use Rattle.check_book.proofs.Progress.{step, step-fits, stop}
 use borrow.Author.Needs.{needs}
 use Rattle.check_book.proofs.walk_state.Statement.{statement}

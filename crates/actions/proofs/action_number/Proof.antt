@@ -1,18 +1,18 @@
 -- Each early return is the first question that the action fails: those before it were passed on the way.
 -- Assumes nothing.
-use mathlib.Core.Path.{_≡_, refl, sym, ap, _∙_}
-use mathlib.Core.Bool.{true, false}
+use mathlib.Core.Path.{_≡_, sym, _∙_}
+use mathlib.Core.Bool.{true}
 use Prim.Native.Nat.{_≤_}
 use native.Mathlib.Omega.{arith}
 use borrow.Author.Tests.{not-true, not-false}
-use Rattle.model.specs.Model.{Words, left, right, horizon, lineCount, branches, lineAfter}
-use Rattle.model.specs.Questions.{inside, branchesAllowed, costAllowed, nextsAllowed, weightsAllowed}
+use Rattle.model.specs.Model.{Words, left, lineCount, branches, lineAfter}
+use Rattle.model.specs.Questions.{branchesAllowed, costAllowed}
 use Rattle.book.proofs.Words.{no, yes′}
-use Rattle.check_book.specs.Walk.{branchesInside}
-use Rattle.check_book.proofs.Steps.{branches-are, inside-is, cost-is, unfit, unbranched, fit-both, nine, ten, eleven, twelve, zero-all}
+use Rattle.book.proofs.Columns.{branches-are}
+use Rattle.actions.proofs.Steps.{inside-is, cost-is, unfit, unbranched, fit-both, nine, ten, eleven, twelve, zero-all}
 use borrow.Author.Needs.{needs}
-use Rattle.check_book.proofs.action_number.Statement.{statement}
-use Rattle.check_book.proofs.action_number.Tie as tie
+use Rattle.actions.proofs.action_number.Statement.{statement}
+use Rattle.actions.proofs.action_number.Tie as tie
 
 abbrev ws : tie.Start → Words
 ws s = s .args .b .now

@@ -7,10 +7,10 @@ use native.Mathlib.Omega.{arith}
 use Rattle.model.specs.Lists.{all}
 use Rattle.questions.specs.Ranges.{all-fails, all-more}
 use Rattle.book.proofs.Words.{no, yes′}
-use Rattle.check_book.specs.Walk.{nextAllowed}
+use Rattle.actions.specs.Action.{nextAllowed}
 use borrow.Author.Needs.{needs}
-use Rattle.check_book.proofs.nexts_rise.Statement.{statement}
-use Rattle.check_book.proofs.nexts_rise.Tie as tie
+use Rattle.actions.proofs.nexts_rise.Statement.{statement}
+use Rattle.actions.proofs.nexts_rise.Tie as tie
 
 abbrev Inv-loop : tie.InvT-loop
 Inv-loop b at r width i₀ i = (i ≤ r) × (all i (nextAllowed b at width) ≡ true)

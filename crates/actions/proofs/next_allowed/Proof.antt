@@ -1,10 +1,10 @@
 -- The next state before it is -1 for the first transition, and that of the transition before for any other.
 -- Assumes nothing.
 use Rattle.book.proofs.Words.{no, yes′}
-use Rattle.check_book.proofs.Steps.{prev-first, prev-later}
+use Rattle.actions.proofs.Steps.{prev-first, prev-later}
 use borrow.Author.Needs.{needs}
-use Rattle.check_book.proofs.next_allowed.Statement.{statement}
-use Rattle.check_book.proofs.next_allowed.Tie as tie
+use Rattle.actions.proofs.next_allowed.Statement.{statement}
+use Rattle.actions.proofs.next_allowed.Tie as tie
 
 add-word-above : tie.Need-add-word-above
 add-word-above c = search needs

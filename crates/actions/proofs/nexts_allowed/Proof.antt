@@ -3,10 +3,11 @@
 use mathlib.Core.Path.{_≡_, refl, _∙_}
 use native.Mathlib.Omega.{arith}
 use Rattle.model.specs.Model.{branches, lineAfter}
-use Rattle.check_book.proofs.Steps.{branches-are, size-is, nexts-are}
+use Rattle.book.proofs.Columns.{branches-are, size-is}
+use Rattle.actions.proofs.Steps.{nexts-are}
 use borrow.Author.Needs.{needs}
-use Rattle.check_book.proofs.nexts_allowed.Statement.{statement}
-use Rattle.check_book.proofs.nexts_allowed.Tie as tie
+use Rattle.actions.proofs.nexts_allowed.Statement.{statement}
+use Rattle.actions.proofs.nexts_allowed.Tie as tie
 
 add-at : tie.Need-add-at
 add-at c = search needs

@@ -1,13 +1,14 @@
 -- The words read are those of the right column.
 -- Assumes nothing.
-use mathlib.Core.Path.{_≡_, refl, sym, _∙_}
+use mathlib.Core.Path.{_≡_, refl}
 use native.Mathlib.Omega.{arith}
 use borrow.Author.Tests.{not-true, not-false}
 use Rattle.model.specs.Model.{branches, lineAfter}
-use Rattle.check_book.proofs.Steps.{branches-are, weights-no, weights-last, weights-sum}
+use Rattle.book.proofs.Columns.{branches-are}
+use Rattle.actions.proofs.Steps.{weights-no, weights-last, weights-sum}
 use borrow.Author.Needs.{needs}
-use Rattle.check_book.proofs.weights_allowed.Statement.{statement}
-use Rattle.check_book.proofs.weights_allowed.Tie as tie
+use Rattle.actions.proofs.weights_allowed.Statement.{statement}
+use Rattle.actions.proofs.weights_allowed.Tie as tie
 
 add-at : tie.Need-add-at
 add-at c = search needs

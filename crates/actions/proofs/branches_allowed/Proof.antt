@@ -2,8 +2,8 @@
 -- Assumes nothing.
 use borrow.Author.Tests.{eq-eqb, ne-eqb}
 use borrow.Author.Needs.{needs}
-use Rattle.check_book.proofs.branches_allowed.Statement.{statement}
-use Rattle.check_book.proofs.branches_allowed.Tie as tie
+use Rattle.actions.proofs.branches_allowed.Statement.{statement}
+use Rattle.actions.proofs.branches_allowed.Tie as tie
 
 word-in-requires : tie.Need-word-in-requires
 word-in-requires c κs = search needs

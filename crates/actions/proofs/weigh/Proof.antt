@@ -1,7 +1,7 @@
 -- Every weight passed so far is from 1 to d, and sum is their sum.
 -- Assumes nothing.
 use mathlib.Core.Path.{_≡_, refl, sym}
-use mathlib.Core.Bool.{true, false}
+use mathlib.Core.Bool.{true}
 use Prim.Native.Nat.{ℕ, _+_, _*_, _-_, _≤_}
 use native.Mathlib.Omega.{arith}
 use lib.IntN.{pos, natAbs}
@@ -11,8 +11,8 @@ use Rattle.model.specs.Questions.{inside}
 use Rattle.questions.specs.Ranges.{all-fails, all-more, sum-step}
 use Rattle.book.proofs.Words.{no, yes′}
 use borrow.Author.Needs.{needs}
-use Rattle.check_book.proofs.weigh.Statement.{statement}
-use Rattle.check_book.proofs.weigh.Tie as tie
+use Rattle.actions.proofs.weigh.Statement.{statement}
+use Rattle.actions.proofs.weigh.Tie as tie
 
 abbrev Inv-loop : tie.InvT-loop
 Inv-loop b at r d sum₀ i₀ sum i =

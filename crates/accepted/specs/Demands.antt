@@ -1,0 +1,439 @@
+-- What document 01 promises of an accepted book, in its reader's words: its plans, their cost, their order and the list. Each law quotes the sentence
+-- that it renders.
+-- Assumes nothing.
+use mathlib.Core.Path.{_≡_, refl, sym, ap, _∙_, subst}
+use mathlib.Core.Bool.{Bool, true, false}
+use mathlib.Core.Logic.{_⊎_, inl, inr, _↔_}
+use mathlib.Core.List.{List, [], _∷_}
+use mathlib.Core.Option.{some}
+use Prim.Native.Nat.{ℕ, _+_, _*_, _-_, _^_, _≤_, _<_, min}
+use native.Mathlib.Nat.{zero-add, le-trans, mul-le-mul, mul-le-mul-right, pow-le-pow-right}
+use native.Mathlib.Decide.{decLt}
+use native.Mathlib.Omega.{arith}
+use lib.Dec.{T, T-not}
+use lib.IntN.{natAbs}
+use lib.Signed.{_≤ℤ_, _<ℤ_, ltZ, ltZ-yes, ltZ-no, ≤ℤ-refl}
+use lib.ListN.{length, getElem?, take, length-take}
+use lib.Seq.{ext-getD}
+use Rattle.model.specs.Lists.{count, isIn, sorted}
+use Rattle.model.specs.Model.{Words, scale, horizon, stateCount, togo, action, options}
+use Rattle.model.specs.Questions.{largestCost, bookNumber}
+use Rattle.model.specs.Policy.{Policy, nexts, allowed, isPolicy, policies}
+use Rattle.model.specs.Path.{totalWeight, byteAt, taken, paths, policyCost}
+use Rattle.model.specs.Recursion.{costToGo, through, leastToGo, leastCostToGo}
+use Rattle.model.specs.Order.{lower, comesBefore, ranking, rankingCosts}
+use Rattle.model.specs.Calls.{leastCost}
+use Rattle.laws.specs.Int.{≤ℤ-antisym}
+use Rattle.laws.specs.Members.{T-true, true-T, false-T, In, in-one, isIn-in, in-isIn, Apart, at-nexts}
+use Rattle.laws.specs.Sorting.{Strict, Total, apart-take, at-in, apart-sorted, sorted-length, listed as list-entries}
+use Rattle.laws.specs.Paths.{weight-paths, cost-paths}
+use Rattle.laws.specs.Bounds.{to-go-bound, through-bound, least-bound}
+use Rattle.laws.specs.Policies.{IsPolicy, policy-length, policy-in, in-policy, policies-apart, reachedFrom, reached-mono, reads, reached-closed}
+use Rattle.laws.specs.Policies.{FirstDifference, differ}
+use Rattle.laws.specs.Order.{Low, Before, lower-is, before-is, before-cost, strict, total}
+use Rattle.laws.specs.First.{costFrom0, firstPolicy, is-policy, first-cost, cheapest, comes-first}
+use Rattle.accepted.specs.Facts.{accepted}
+use Rattle.accepted.specs.Shape.{options-below, policy-is, shape, lists, togo-start, full, weights-bound, cost-bound}
+use Rattle.accepted.specs.Entries.{in-at, some-at, map-at, take-one, count-most, count-none, by-rank}
+use Rattle.accepted.specs.Walks.{policy-allowed, allowed-policy, reached-from, low-at}
+
+not-in : (x : ℕ) (ys : List ℕ) → (In x ys → ⊥) → isIn x ys ≡ false
+not-in x ys h = go (isIn x ys) refl
+  where
+    go : (b : Bool) → isIn x ys ≡ b → isIn x ys ≡ false
+    go true e = absurd (h (isIn-in x ys (true-T e)))
+    go false e = e
+
+-- the states that a policy reaches
+abbrev pub reached : Words → Policy → List ℕ
+reached ws bs = reachedFrom (action ws) 0 (0 ∷ []) bs
+
+-- the policy that takes the lowest best action at each state that it reaches
+abbrev pub bestPolicy : Words → Policy
+bestPolicy ws = firstPolicy (scale ws) (stateCount ws) (action ws) (togo ws) (options ws)
+
+-- "A plan has S bytes: for a reached post its choice (one of that post's, counted from 0), for any other 255."
+pub record PolicyBytes (ws : Words) (bs : Policy) : Type 0 where
+  pub long : length bs ≡ stateCount ws
+  pub at-reached : (q : ℕ) → q < stateCount ws → In q (reached ws bs) → In (byteAt bs q) (options ws q)
+  pub at-other : (q : ℕ) → q < stateCount ws → (In q (reached ws bs) → ⊥) → byteAt bs q ≡ 255
+
+module _ (ws : Words) (ok : bookNumber ws ≡ 0) where
+  -- ---- policies
+
+  -- "is the slice a plan of this book?": the policies of the model are those that the test passes
+  pub policies-are : (bs : Policy) → In bs (policies ws) ↔ T (isPolicy ws bs)
+  unfolding policies
+  policies-are bs = (
+    λ i. policy-is ws bs .1 (in-policy (action ws) (options ws) (stateCount ws) 0 (0 ∷ []) bs i),
+    λ t. policy-in (action ws) (options ws) (stateCount ws) 0 (0 ∷ []) bs (policy-is ws bs .0 t),
+  )
+
+  -- none is there twice
+  pub policies-once : Apart (policies ws)
+  unfolding policies
+  policies-once = policies-apart (action ws) (options ws) (lists ws ok .rising) (stateCount ws) 0 (0 ∷ [])
+
+  -- the policy of lowest best actions is one of them
+  pub best-policy : T (isPolicy ws (bestPolicy ws))
+  best-policy =
+      policy-is ws (bestPolicy ws) .1
+      (is-policy (scale ws) (stateCount ws) (action ws) (togo ws) (shape ws ok) (λ p. p < stateCount ws) (options ws) (lists ws ok))
+
+  -- "is k from 1 to K": there is at least one
+  pub policies-some : 0 < length (policies ws)
+  policies-some = some (policies ws) (policies-are (bestPolicy ws) .1 best-policy)
+    where
+      some : (xs : List Policy) → In (bestPolicy ws) xs → 0 < length xs
+      some [] i = absurd i
+      some (x ∷ xs) i = omega arith
+
+  -- ---- the states reached
+
+  -- "Post 0 is reached."
+  pub start-reached : (bs : Policy) → In 0 (reached ws bs)
+  start-reached bs = reached-mono (action ws) 0 (0 ∷ []) bs 0 (inl refl)
+
+  module _ (bs : Policy) (t : T (isPolicy ws bs)) where
+    abbrev walk : IsPolicy (action ws) (options ws) (stateCount ws) 0 (0 ∷ []) bs
+    walk = policy-is ws bs .0 t
+
+    -- no other state is reached than these two sentences say: each is state 0, or a next state of a lower reached state
+    pub reached-why : (q : ℕ) → In q (reached ws bs)
+        → (q ≡ 0) ⊎ ((p : ℕ) × In p (reached ws bs) × (p < q) × In q (nexts (taken ws bs p .transitions)))
+    unfolding taken
+    reached-why q i =
+        go (reached-from (action ws) (options ws) (shape ws ok .later) (byteAt bs) (shape ws ok .bare) (stateCount ws) 0 (0 ∷ []) bs walk
+        (reads bs) q i)
+      where
+        Why : Type 0
+        Why = (p : ℕ) × In p (reached ws bs) × (p < q) × In q (nexts (action ws p (byteAt bs p) .transitions))
+
+        go : In q (0 ∷ []) ⊎ Why → (q ≡ 0) ⊎ Why
+        go (inl j) = inl (in-one j)
+        go (inr s) = inr s
+
+    -- every reached state is a state of the model
+    pub reached-inside : (q : ℕ) → In q (reached ws bs) → q < stateCount ws
+    unfolding taken
+    reached-inside q i = go (reached-why q i)
+      where
+        go : (q ≡ 0) ⊎ ((p : ℕ) × In p (reached ws bs) × (p < q) × In q (nexts (action ws p (byteAt bs p) .transitions))) → q < stateCount ws
+        go (inl e) = omega (arith, shape ws ok .some-state)
+        go (inr s) =
+            at-nexts (λ r. r < stateCount ws) (action ws (s .0) (byteAt bs (s .0)) .transitions)
+            (shape ws ok .inside (s .0) (byteAt bs (s .0))) q (s .3)
+
+    -- "If a post is reached, so are all next posts of its chosen choice."
+    pub nexts-reached : (q r : ℕ) → In q (reached ws bs) → In r (nexts (taken ws bs q .transitions)) → In r (reached ws bs)
+    unfolding taken
+    nexts-reached q r i j =
+        at-nexts (λ s. In s (reached ws bs)) (action ws q (byteAt bs q) .transitions)
+        (reached-closed (action ws) (options ws) (shape ws ok .later) (byteAt bs) (stateCount ws) 0 (0 ∷ []) bs walk (reads bs) q i
+        (omega arith) (omega (arith, reached-inside q i)) .1) r j
+
+  -- "A plan has S bytes: for a reached post its choice (one of that post's, counted from 0), for any other 255."
+  pub policy-bytes : (bs : Policy) → T (isPolicy ws bs) ↔ PolicyBytes ws bs
+  policy-bytes bs = (λ t. record { long = long t; at-reached = at-reached t; at-other = at-other t }, from)
+    where
+      AllowedAt : ℕ → Type 0
+      AllowedAt q = In (byteAt bs q) (allowed (options ws q) (isIn q (reached ws bs)))
+
+      allowed-at : T (isPolicy ws bs) → (q : ℕ) → q < stateCount ws → AllowedAt q
+      allowed-at t q l =
+          policy-allowed (action ws) (options ws) (shape ws ok .later) (byteAt bs) (stateCount ws) 0 (0 ∷ []) bs (policy-is ws bs .0 t) (reads bs) q
+          (omega arith) (omega arith)
+
+      long : T (isPolicy ws bs) → length bs ≡ stateCount ws
+      long t = policy-length (action ws) (options ws) (stateCount ws) 0 (0 ∷ []) bs (policy-is ws bs .0 t)
+
+      at-reached : T (isPolicy ws bs) → (q : ℕ) → q < stateCount ws → In q (reached ws bs) → In (byteAt bs q) (options ws q)
+      at-reached t q l i = rw (T-true (isIn q (reached ws bs)) (in-isIn q (reached ws bs) i)) at (allowed-at t q l)
+
+      at-other : T (isPolicy ws bs) → (q : ℕ) → q < stateCount ws → (In q (reached ws bs) → ⊥) → byteAt bs q ≡ 255
+      at-other t q l n = in-one (rw (not-in q (reached ws bs) n) at (allowed-at t q l))
+
+      from : PolicyBytes ws bs → T (isPolicy ws bs)
+      from b =
+          policy-is ws bs .1
+          (allowed-policy (action ws) (options ws) (shape ws ok .later) (byteAt bs) (stateCount ws) 0 (0 ∷ []) bs (b .long) (reads bs)
+          (λ q a l. go q (omega arith) (isIn q (reached ws bs)) refl))
+        where
+          go : (q : ℕ) → q < stateCount ws → (c : Bool) → isIn q (reached ws bs) ≡ c → AllowedAt q
+          go q l true e = rw e (b .at-reached q l (isIn-in q (reached ws bs) (true-T e)))
+          go q l false e = rw e (inl (b .at-other q l (λ i. T-not (isIn q (reached ws bs)) (false-T e) (in-isIn q (reached ws bs) i))))
+
+  -- no state has an action 255, so a byte says whether its state is reached
+  pub other-byte : (q : ℕ) → q < stateCount ws → In 255 (options ws q) → ⊥
+  other-byte q l i = omega (arith, options-below ws q i, accepted ws ok .counts-high q l)
+
+  -- "Two plans are the same if all bytes agree."
+  pub same-bytes : (bs cs : Policy) → T (isPolicy ws bs) → T (isPolicy ws cs)
+      → ((q : ℕ) → q < stateCount ws → byteAt bs q ≡ byteAt cs q) → bs ≡ cs
+  same-bytes bs cs t u h =
+      let m = policy-bytes bs .0 t .long in
+      let n = policy-bytes cs .0 u .long in
+      ext-getD 255 bs cs (m ∙ sym n) (λ i l. h i (omega arith))
+
+  -- ---- the cost
+
+  module _ (bs : Policy) (t : T (isPolicy ws bs)) where
+    -- "Divided by D^H it is the expected total cost": the weights of a policy's paths add to D^H
+    pub weights-add : totalWeight (paths ws bs) ≡ scale ws ^ horizon ws
+    unfolding paths
+    weights-add = weight-paths (scale ws) (taken ws bs) (horizon ws) 0 (full ws ok bs t)
+
+    -- "A plan's cost is the sum over all its days of weight × cost." It agrees with equation (4) times D^H
+    pub cost-recursion : policyCost ws bs ≡ costToGo (scale ws) (taken ws bs) (horizon ws) 0
+    unfolding policyCost paths
+    cost-recursion = cost-paths (scale ws) (taken ws bs) (horizon ws) 0 (full ws ok bs t)
+
+    -- the same, as the laws about the first policy write it
+    pub cost-from : policyCost ws bs ≡ costFrom0 (scale ws) (action ws) (togo ws) bs
+    unfolding taken
+    cost-from = cost-recursion ∙ ap (λ (m : ℕ). costToGo (scale ws) (taken ws bs) m 0) (sym (togo-start ws ok))
+
+  -- "The least cost over all plans agrees with equation (5) times D^H.": this policy has that cost
+  pub best-cost : policyCost ws (bestPolicy ws) ≡ leastCostToGo ws
+  unfolding leastCostToGo
+  best-cost =
+      cost-from (bestPolicy ws) best-policy
+      ∙ first-cost (scale ws) (stateCount ws) (action ws) (togo ws) (shape ws ok) (λ p. p < stateCount ws) (options ws) (lists ws ok)
+      ∙ ap (λ (m : ℕ). leastToGo (scale ws) (action ws) (options ws) m 0) (togo-start ws ok)
+
+  -- and no policy costs less
+  pub least-all : (bs : Policy) → T (isPolicy ws bs) → leastCostToGo ws ≤ℤ policyCost ws bs
+  least-all bs t =
+      rw (← best-cost, cost-from (bestPolicy ws) best-policy, cost-from bs t)
+      (cheapest (scale ws) (stateCount ws) (action ws) (togo ws) (shape ws ok) (λ p. p < stateCount ws) (options ws) (lists ws ok) bs
+      (policy-is ws bs .0 t))
+
+  -- ---- the order
+
+  -- as the laws about sorting ask for it
+  pub order-strict : Strict (comesBefore ws)
+  unfolding comesBefore
+  order-strict = strict (policyCost ws)
+
+  pub order-decided : Total (comesBefore ws) (policies ws)
+  unfolding comesBefore policies
+  order-decided = total (action ws) (options ws) (policyCost ws) (stateCount ws)
+
+  -- "the order": no policy comes before itself, and what comes before another comes before all that come after that one
+  pub order-irreflexive : (bs : Policy) → comesBefore ws bs bs ≡ false
+  order-irreflexive = order-strict .irrefl
+
+  pub order-transitive : (bs cs ds : Policy) → T (comesBefore ws bs cs) → T (comesBefore ws cs ds) → T (comesBefore ws bs ds)
+  order-transitive = order-strict .trans
+
+  -- of two policies that differ, one comes before the other
+  pub order-total : (bs cs : Policy) → T (isPolicy ws bs) → T (isPolicy ws cs) → (bs ≡ cs → ⊥)
+      → T (comesBefore ws bs cs) ⊎ T (comesBefore ws cs bs)
+  order-total bs cs t u n = go (comesBefore ws bs cs) refl
+    where
+      go : (b : Bool) → comesBefore ws bs cs ≡ b → T (comesBefore ws bs cs) ⊎ T (comesBefore ws cs bs)
+      go true e = inl (true-T e)
+      go false e = inr (order-decided bs cs (policies-are bs .1 t) (policies-are cs .1 u) n e)
+
+  -- "the lowest-numbered post where they differ"
+  pub first-difference : (bs cs : Policy) → T (isPolicy ws bs) → T (isPolicy ws cs) → (bs ≡ cs → ⊥)
+      → FirstDifference (action ws) (stateCount ws) 0 (0 ∷ []) bs cs
+  first-difference bs cs t u n =
+      differ (action ws) (options ws) (stateCount ws) 0 (0 ∷ []) bs cs (policy-is ws bs .0 t) (policy-is ws cs .0 u) n
+
+  -- "(Both reach that post, since earlier stages agree.)"
+  pub both-reach : (bs cs : Policy) (d : FirstDifference (action ws) (stateCount ws) 0 (0 ∷ []) bs cs)
+      → In (d .index) (reached ws bs) × In (d .index) (reached ws cs)
+  both-reach bs cs d = (rw zero-add at (d .reached-by-one), rw zero-add at (d .reached-by-other))
+
+  -- "Plan P comes before Q if its cost is lower, or equal with the lower choice at the lowest-numbered post where they differ."
+  pub comes-before-is : (bs cs : Policy) → T (isPolicy ws bs) → T (isPolicy ws cs)
+      → (d : FirstDifference (action ws) (stateCount ws) 0 (0 ∷ []) bs cs)
+      → T (comesBefore ws bs cs)
+      ↔ ((policyCost ws bs <ℤ policyCost ws cs)
+      ⊎ ((policyCost ws bs ≡ policyCost ws cs) × (byteAt bs (d .index) < byteAt cs (d .index))))
+  unfolding comesBefore
+  comes-before-is bs cs t u d = (λ b. to (ltZ (policyCost ws bs) (policyCost ws cs)) refl (is .0 b), λ b. is .1 (from b))
+    where
+      is : T (comesBefore ws bs cs) ↔ Before (policyCost ws) bs cs
+      is = before-is (policyCost ws) bs cs
+
+      low : Low bs cs ↔ (byteAt bs (d .index) < byteAt cs (d .index))
+      low =
+          low-at bs cs (d .index) (omega (arith, policy-bytes bs .0 t .long)) (omega (arith, policy-bytes cs .0 u .long)) (d .agree)
+          (d .disagree)
+
+      Says : Type 0
+      Says = (policyCost ws bs <ℤ policyCost ws cs) ⊎ ((policyCost ws bs ≡ policyCost ws cs) × (byteAt bs (d .index) < byteAt cs (d .index)))
+
+      to : (b : Bool) → ltZ (policyCost ws bs) (policyCost ws cs) ≡ b → Before (policyCost ws) bs cs → Says
+      to b e (inl l) = inl l
+      to true e (inr l) = inl (ltZ-yes (true-T e))
+      to false e (inr l) = inr (≤ℤ-antisym (l .0) (ltZ-no (false-T e)), low .0 (l .1))
+
+      from : Says → Before (policyCost ws) bs cs
+      from (inl l) = inl l
+      from (inr l) = inr (rw (l .0) (≤ℤ-refl (policyCost ws cs)), low .1 (l .1))
+
+  -- ---- the list
+
+  -- a policy comes before another exactly if fewer policies come before it
+  pub by-count : (bs cs : Policy) → T (isPolicy ws bs) → T (isPolicy ws cs)
+      → T (comesBefore ws bs cs) ↔ (count (λ q. comesBefore ws q bs) (policies ws) < count (λ q. comesBefore ws q cs) (policies ws))
+  by-count bs cs t u =
+      by-rank (comesBefore ws) order-strict (policies ws) policies-once order-decided bs cs (policies-are bs .1 t) (policies-are cs .1 u)
+
+  module _ (K : ℕ) where
+    -- "The list for an accepted book and K holds a plan of the book exactly when fewer than K plans of the book come before it, as plan j if j of
+    -- them do, and nothing else."
+    pub listed : (j : ℕ) (bs : Policy)
+        → (getElem? (ranking ws K) j ≡ some bs) ↔ (T (isPolicy ws bs) × (count (λ q. comesBefore ws q bs) (policies ws) ≡ j) × (j < K))
+    unfolding ranking
+    listed j bs = (λ e. let h = l .0 e in (policies-are bs .0 (h .0), h .1, h .2), λ h. l .1 (policies-are bs .1 (h .0), h .1, h .2))
+      where
+        l : (getElem? (take K (sorted (comesBefore ws) (policies ws))) j ≡ some bs)
+            ↔ (In bs (policies ws) × (count (λ q. comesBefore ws q bs) (policies ws) ≡ j) × (j < K))
+        l = list-entries (comesBefore ws) order-strict K (policies ws) policies-once order-decided j bs
+
+    pub in-list : (bs : Policy) → In bs (ranking ws K) ↔ (T (isPolicy ws bs) × (count (λ q. comesBefore ws q bs) (policies ws) < K))
+    in-list bs = (
+      λ i. let e = in-at bs (ranking ws K) i in let h = listed (e .0) bs .0 (e .1) in (h .0, omega (arith, h .1, h .2)),
+      λ h. at-in (ranking ws K) (count (λ q. comesBefore ws q bs) (policies ws)) bs
+          (listed (count (λ q. comesBefore ws q bs) (policies ws)) bs .1 (h .0, refl, h .1)),
+    )
+
+    -- "each plan once"
+    pub list-once : Apart (ranking ws K)
+    unfolding ranking
+    list-once = apart-take K (sorted (comesBefore ws) (policies ws)) (apart-sorted (comesBefore ws) (policies ws) policies-once)
+
+    -- "k is the smaller of K and the number of the book's plans."
+    pub list-length : length (ranking ws K) ≡ min K (length (policies ws))
+    unfolding ranking
+    list-length =
+        length-take K (sorted (comesBefore ws) (policies ws)) ∙ ap (min K) (sorted-length (comesBefore ws) (policies ws))
+
+    -- "Cost j is plan j's exact cost, the sum above."
+    pub costs-are : (j : ℕ) (bs : Policy) → getElem? (ranking ws K) j ≡ some bs → getElem? (rankingCosts ws K) j ≡ some (policyCost ws bs)
+    unfolding rankingCosts
+    costs-are j bs e = map-at (policyCost ws) (ranking ws K) j bs e
+
+    -- "as plan j if j of them do": of two entries, the one above comes before the other
+    pub above : (i j : ℕ) (bs cs : Policy) → getElem? (ranking ws K) i ≡ some bs → getElem? (ranking ws K) j ≡ some cs
+        → (i < j) ↔ T (comesBefore ws bs cs)
+    above i j bs cs e k =
+        let h = listed i bs .0 e in
+        let g = listed j cs .0 k in
+        let c = by-count bs cs (h .0) (g .0) in
+        (λ l. c .1 (omega arith), λ b. omega (arith, c .0 b))
+
+    -- and every policy that comes before an entry stands above it
+    pub above-all : (j : ℕ) (bs cs : Policy) → getElem? (ranking ws K) j ≡ some bs → T (isPolicy ws cs) → T (comesBefore ws cs bs)
+        → (i : ℕ) × (i < j) × (getElem? (ranking ws K) i ≡ some cs)
+    above-all j bs cs e u b =
+        let h = listed j bs .0 e in
+        let l = by-count cs bs u (h .0) .0 b in
+        let n = count (λ q. comesBefore ws q cs) (policies ws) in
+        (n, omega arith, listed n cs .1 (u, refl, omega arith))
+
+    -- "if its cost is lower": an entry costs no more than those after it
+    pub costs-rise : (i j : ℕ) (bs cs : Policy) → i < j → getElem? (ranking ws K) i ≡ some bs → getElem? (ranking ws K) j ≡ some cs
+        → policyCost ws bs ≤ℤ policyCost ws cs
+    unfolding comesBefore
+    costs-rise i j bs cs h e k = before-cost (policyCost ws) bs cs (above i j bs cs e k .0 h)
+
+    -- "exactly when fewer than K plans of the book come before it": every listed policy comes before every policy that is not listed
+    pub rest-after : (bs cs : Policy) → In bs (ranking ws K) → T (isPolicy ws cs) → (In cs (ranking ws K) → ⊥) → T (comesBefore ws bs cs)
+    rest-after bs cs i u n = go (decLt (count (λ q. comesBefore ws q cs) (policies ws)) K)
+      where
+        go : Dec (count (λ q. comesBefore ws q cs) (policies ws) < K) → T (comesBefore ws bs cs)
+        go (yes l) = absurd (n (in-list cs .1 (u, l)))
+        go (no l) = let h = in-list bs .0 i in by-count bs cs (h .0) u .1 (omega arith)
+
+    -- so there is a last listed one, and every policy that is not listed comes after it
+    pub rest-after-last : 0 < K → (bs : Policy) × (getElem? (ranking ws K) (length (ranking ws K) - 1) ≡ some bs)
+        × ((cs : Policy) → T (isPolicy ws cs) → (In cs (ranking ws K) → ⊥) → T (comesBefore ws bs cs))
+    rest-after-last h =
+        let e = some-at (ranking ws K) (length (ranking ws K) - 1) (omega (arith, list-length, policies-some)) in
+        (e .0, e .1, λ cs u n. rest-after (e .0) cs (at-in (ranking ws K) (length (ranking ws K) - 1) (e .0) (e .1)) u n)
+
+    -- "fewer than K": a list that is shorter than K holds every policy
+    pub none-missing : (bs : Policy) → length (ranking ws K) < K → T (isPolicy ws bs) → In bs (ranking ws K)
+    none-missing bs h t = in-list bs .1 (t, omega (arith, list-length, count-most (λ q. comesBefore ws q bs) (policies ws)))
+
+  -- ---- the first policy
+
+  none-before : (bs : Policy) → T (isPolicy ws bs) → comesBefore ws bs (bestPolicy ws) ≡ false
+  unfolding comesBefore
+  none-before bs t = go (comesBefore ws bs (bestPolicy ws)) refl
+    where
+      G : Policy
+      G = bestPolicy ws
+
+      never : T (comesBefore ws G G) → ⊥
+      never h = subst T (order-irreflexive G) h
+
+      cheap : T (comesBefore ws bs G) → costFrom0 (scale ws) (action ws) (togo ws) bs ≤ℤ costFrom0 (scale ws) (action ws) (togo ws) G
+      cheap h = rw (← cost-from bs t, ← cost-from G best-policy) (before-cost (policyCost ws) bs G h)
+
+      ahead : T (lower G bs) → T (comesBefore ws G bs)
+      ahead l = before-is (policyCost ws) G bs .1 (inr (rw best-cost (least-all bs t), lower-is G bs .0 l))
+
+      clash : T (comesBefore ws bs G) → (G ≡ bs) ⊎ T (lower G bs) → ⊥
+      clash h (inl e) = never (subst (λ (x : Policy). T (comesBefore ws x G)) (sym e) h)
+      clash h (inr l) = never (order-transitive G bs G (ahead l) h)
+
+      go : (b : Bool) → comesBefore ws bs G ≡ b → comesBefore ws bs G ≡ false
+      go true e =
+          absurd (clash (true-T e)
+          (comes-first (scale ws) (stateCount ws) (action ws) (togo ws) (shape ws ok) (λ p. p < stateCount ws) (options ws) (lists ws ok) bs
+          (policy-is ws bs .0 t) (cheap (true-T e))))
+      go false e = e
+
+  -- the first policy takes the lowest best action at each state that it reaches
+  pub first-policy : ranking ws 1 ≡ bestPolicy ws ∷ []
+  unfolding ranking
+  first-policy =
+      take-one (sorted (comesBefore ws) (policies ws)) (bestPolicy ws)
+      (listed 1 0 (bestPolicy ws) .1 (
+        best-policy,
+        count-none (λ q. comesBefore ws q (bestPolicy ws)) (policies ws)
+            (λ bs i. none-before bs (policies-are bs .0 i)),
+        omega arith,
+      ))
+
+  -- the least cost is that of the first policy, and agrees with equation (5) times D^H
+  pub least-first : (bs : Policy) × (ranking ws 1 ≡ bs ∷ []) × (policyCost ws bs ≡ leastCostToGo ws)
+  least-first = (bestPolicy ws, first-policy, best-cost)
+
+  -- "the least cost that of the first plan"
+  pub least-call : leastCost ws ≡ leastCostToGo ws
+  unfolding leastCost rankingCosts
+  least-call = rw (ok, first-policy) best-cost
+
+  -- ---- bounds
+
+  most-fits : (m : ℕ) → m ≤ horizon ws → scale ws ^ m * (m + 1) * largestCost ws ≤ 4000000000000000000
+  most-fits m h =
+      le-trans (mul-le-mul-right (largestCost ws) (mul-le-mul (pow-le-pow-right (accepted ws ok .sizes .d-low) h) (omega arith)))
+      (accepted ws ok .product-bounded)
+
+  -- "Is D^H × (H + 1) × (largest cost without its sign) at most 4 × 10^18?": no figure of the recursions is larger, at any state and with at most H
+  -- stages still to come, and no policy's cost is
+  pub to-go-fits : (bs : Policy) (m p : ℕ) → m ≤ horizon ws → natAbs (costToGo (scale ws) (taken ws bs) m p) ≤ 4000000000000000000
+  unfolding taken
+  to-go-fits bs m p h =
+      le-trans
+      (to-go-bound (scale ws) (largestCost ws) (taken ws bs) (λ q. cost-bound ws ok q (byteAt bs q)) (λ q. weights-bound ws ok q (byteAt bs q)) m p)
+      (most-fits m h)
+
+  pub through-fits : (m p c : ℕ) → m ≤ horizon ws → natAbs (through (scale ws) (action ws) (options ws) m p c) ≤ 4000000000000000000
+  through-fits m p c h =
+      le-trans (through-bound (scale ws) (largestCost ws) (action ws) (options ws) (cost-bound ws ok) (weights-bound ws ok) m p c) (most-fits m h)
+
+  pub least-fits : (m p : ℕ) → m ≤ horizon ws → natAbs (leastToGo (scale ws) (action ws) (options ws) m p) ≤ 4000000000000000000
+  least-fits m p h =
+      le-trans (least-bound (scale ws) (largestCost ws) (action ws) (options ws) (cost-bound ws ok) (weights-bound ws ok) m p) (most-fits m h)
+
+  pub cost-fits : (bs : Policy) → T (isPolicy ws bs) → natAbs (policyCost ws bs) ≤ 4000000000000000000
+  cost-fits bs t = rw (cost-recursion bs t) (to-go-fits bs (horizon ws) 0 (omega arith))
