@@ -34,8 +34,8 @@ use Rattle.laws.specs.Order.{Low, Before, lower-is, before-is, before-cost, str
 use Rattle.laws.specs.First.{costFrom0, firstPolicy, is-policy, first-cost, cheapest, comes-first}
 use Rattle.accepted.specs.Facts.{accepted}
 use Rattle.accepted.specs.Shape.{options-below, policy-is, shape, lists, togo-start, full, weights-bound, cost-bound}
-use Rattle.accepted.specs.Entries.{in-at, some-at, map-at, take-one, count-most, count-none, by-rank}
-use Rattle.accepted.specs.Walks.{policy-allowed, allowed-policy, reached-from, low-at}
+use Rattle.laws.specs.Entries.{in-at, some-at, map-at, take-one, count-most, count-none, by-rank}
+use Rattle.laws.specs.Walks.{policy-allowed, allowed-policy, reached-from, low-at}
 
 not-in : (x : ℕ) (ys : List ℕ) → (In x ys → ⊥) → isIn x ys ≡ false
 not-in x ys h = go (isIn x ys) refl

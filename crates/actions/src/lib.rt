@@ -90,7 +90,9 @@ fn weights_allowed(b: &[i32], z: Sizes, n: usize, j: usize) -> bool
     if n == z.h {
         return true;
     }
-    w.sum == z.d
+    let sum = w.sum;
+    let d = z.d;
+    sum == d
 }
 
 // 9, but for the lines that do not fit: is r, at word i, allowed in a state of stage n?

@@ -97,10 +97,12 @@ fn walk_lines(b: &[i32], z: Sizes) -> Walk
         }
         p = p + 1;
     }
-    if w.at != z.l {
+    let at = w.at;
+    let l = z.l;
+    if at != l {
         return Walk {
             no: 9,
-            at: w.at,
+            at: at,
             largest: w.largest,
         };
     }

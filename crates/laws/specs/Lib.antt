@@ -8,3 +8,5 @@ pub mod Policies
 pub mod Order
 pub mod Greedy
 pub mod First
+pub mod Entries
+pub mod Walks

@@ -55,9 +55,9 @@ returns-2 c =
 
 returns-3 : tie.Need-returns-3
 returns-3 c =
-    let w = c .before .before .before .before .before .before in
+    let w = c .before .before .before .before in
     let s = w .before .before .before .before .before in
-    weights-sum (s .args .b .now) (s .args .z) (s .pre .1) (s .args .n) (s .args .j) _ _ refl (r-is (w .before .before)) (w .weigh .result) (w .weigh .ensures) (not-false _ (c .before .before .before .before .if1 .left)) (c .before .before .if2 .left)
+    weights-sum (s .args .b .now) (s .args .z) (s .pre .1) (s .args .n) (s .args .j) _ _ refl (r-is (w .before .before)) (w .weigh .result) (w .weigh .ensures) (not-false _ (c .before .before .if1 .left)) (c .if2 .left)
 
 pub weights-allowed-spec : {M : Type 1} → statement M
 weights-allowed-spec =

@@ -70,14 +70,14 @@ passed-all l h =
 
 returns-2 : tie.Need-returns-2 Inv-loop μ-loop
 returns-2 c =
-    let l = c .before .before .before .before in
-    too-short (l .before .args .b .now) (l .loop .w) (passed-all l (c .before .before .before .loop-test .left)) _ refl
+    let l = c .before .before in
+    too-short (l .before .args .b .now) (l .loop .w) (passed-all l (c .before .loop-test .left)) _ refl
     (λ e. c .if2 .taken (e ∙ sym (l .before .pre .1 .l-is)))
 
 returns-3 : tie.Need-returns-3 Inv-loop μ-loop
 returns-3 c =
-    let l = c .before .before .before .before in
-    finish (l .before .args .b .now) (l .loop .w) (passed-all l (c .before .before .before .loop-test .left)) (c .if2 .left ∙ l .before .pre .1 .l-is)
+    let l = c .before .before in
+    finish (l .before .args .b .now) (l .loop .w) (passed-all l (c .before .loop-test .left)) (c .if2 .left ∙ l .before .pre .1 .l-is)
 
 pub walk-lines-spec : {M : Type 1} → statement M
 walk-lines-spec =
