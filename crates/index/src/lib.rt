@@ -1,0 +1,69 @@
+// Where each state of a checked book stands in its lines and in its stages, so that every later pass can go straight there.
+use book::Sizes;
+use book::Stage;
+ghost use mathlib.Core.Path.{_≡_};
+ghost use Prim.Native.Nat.{_<_, _≤_};
+ghost use lib.ListN.{length};
+ghost use Rattle.model.specs.Model.{lineCount, stateCount, stateLine, actionCount, lineAfter, actionLine};
+ghost use Rattle.model.specs.Questions.{bookNumber};
+ghost use Rattle.book.specs.Read.{SizesAre};
+ghost use Rattle.index.specs.Index.{IndexTo, IndexOf};
+
+// The line after those of the action whose first line is line j.
+pub fn line_after(b: &[i32], z: Sizes, j: usize) -> usize
+    requires { ⌜ (bookNumber (now b) ≡ 0) × SizesAre (now b) z × (j < lineCount (now b)) ⌝ }
+    ensures { λ r. ⌜ r ≡ lineAfter (now (b .entry)) j ⌝ }
+{
+    j + 1 + book::size_at(b, 4 + z.h + z.s + j)
+}
+
+// The first line of action c of state p, whose first line is `line`; for c = its number of actions, that of the next state.
+pub fn action_line(b: &[i32], z: Sizes, p: usize, line: usize, c: usize) -> usize
+    requires { ⌜ (bookNumber (now b) ≡ 0) × SizesAre (now b) z × (p < stateCount (now b)) × (line ≡ stateLine (now b) p) × (c ≤ actionCount (now b) p) ⌝ }
+    ensures { λ r. ⌜ r ≡ actionLine (now (b .entry)) p c ⌝ }
+{
+    let mut j = line;
+    let mut d: usize = 0;
+    while d < c {
+        j = line_after(b, z, j);
+        d = d + 1;
+    }
+    j
+}
+
+// How many actions state p has.
+pub fn count(b: &[i32], z: Sizes, p: usize) -> usize
+    requires { ⌜ (bookNumber (now b) ≡ 0) × SizesAre (now b) z × (p < stateCount (now b)) ⌝ }
+    ensures { λ r. ⌜ r ≡ actionCount (now (b .entry)) p ⌝ }
+{
+    book::size_at(b, 4 + z.h + p)
+}
+
+fn zeros() -> [usize; 192]
+    ensures { λ r. ⌜ length r ≡ 192 ⌝ }
+{
+    [0; 192]
+}
+
+// For each state p: at p its first line, at 64 + p the first state of the next stage, at 128 + p the stages still to come.
+pub fn index(b: &[i32], z: Sizes) -> [usize; 192]
+    requires { ⌜ (bookNumber (now b) ≡ 0) × SizesAre (now b) z ⌝ }
+    ensures { λ r. ⌜ IndexOf (now (b .entry)) r ⌝ }
+{
+    let h = z.h;
+    let s = z.s;
+    let mut x = zeros();
+    let mut t = Stage { n: 0, end: 1 };
+    let mut at: usize = 0;
+    let mut p: usize = 0;
+    while p < s {
+        t = book::stage_for(b, z, t, p);
+        x[p] = at;
+        x[64 + p] = t.end;
+        x[128 + p] = h - t.n;
+        let n = count(b, z, p);
+        at = action_line(b, z, p, at, n);
+        p = p + 1;
+    }
+    x
+}
