@@ -413,7 +413,7 @@ module _ (ws : Words) (ok : bookNumber ws ≡ 0) where
 
   -- ---- bounds
 
-  most-fits : (m : ℕ) → m ≤ horizon ws → scale ws ^ m * (m + 1) * largestCost ws ≤ 4000000000000000000
+  pub most-fits : (m : ℕ) → m ≤ horizon ws → scale ws ^ m * (m + 1) * largestCost ws ≤ 4000000000000000000
   most-fits m h =
       le-trans (mul-le-mul-right (largestCost ws) (mul-le-mul (pow-le-pow-right (accepted ws ok .sizes .d-low) h) (omega arith)))
       (accepted ws ok .product-bounded)

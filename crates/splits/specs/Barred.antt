@@ -1,7 +1,7 @@
 -- What a candidate stores: the bytes g of its first policy, its split state q, and the actions barred there. It stands for the policies that take the
 -- actions of g before q, an action that is not barred at q, and any actions after q. Its children are such candidates again.
 -- Assumes nothing.
-use mathlib.Core.Path.{_≡_, ap, _∙_, fun-ext}
+use mathlib.Core.Path.{_≡_, refl, ap, _∙_, fun-ext}
 use mathlib.Core.Bool.{Bool, true, false, cond}
 use mathlib.Core.List.{List, [], _∷_}
 use Prim.Native.Nat.{ℕ, _<_}

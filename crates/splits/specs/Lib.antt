@@ -2,3 +2,4 @@ pub mod Parts
 pub mod Search
 pub mod Barred
 pub mod Kbest
+pub mod Reach

@@ -3,7 +3,8 @@
 use mathlib.Core.Path.{_≡_, _∙_}
 use Prim.Native.Nat.{ℕ, _+_, _*_, _^_, _≤_}
 use native.Mathlib.Omega.{arith}
-use Rattle.check_book.proofs.Bound.{power-is, unit-high, unit-low, by-division}
+use Rattle.power.proofs.Range.{power-is}
+use Rattle.check_book.proofs.Bound.{unit-high, unit-low, by-division}
 use borrow.Author.Needs.{needs}
 use Rattle.check_book.proofs.costs_bounded.Statement.{statement}
 use Rattle.check_book.proofs.costs_bounded.Tie as tie

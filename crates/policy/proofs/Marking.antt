@@ -1,0 +1,124 @@
+-- Marking states, and the bytes that are allowed at a state.
+-- Assumes nothing.
+use mathlib.Core.Path.{_≡_, refl, sym, ap, _∙_, subst}
+use mathlib.Core.Bool.{Bool, true, false, _||_}
+use mathlib.Core.List.{List, [], _∷_, _++_, map}
+use Prim.Native.Nat.{ℕ, zero, suc, _+_, _-_, _≤_, _<_}
+use native.Mathlib.Nat.{add-zero}
+use native.Mathlib.Decide.{ℕ-discrete, decLt}
+use native.Mathlib.Omega.{arith}
+use borrow.Author.Tests.{eq-eqb, ne-eqb, lt-ltb, le-ltb}
+use lib.Dec.{T, ltb, eqb}
+use lib.ListN.{length, getD, set, replicate, length-set}
+use lib.Seq.{getD-set-same, getD-set-other}
+use Rattle.model.specs.Lists.{isIn, upFrom}
+use lib.IntN.{natAbs}
+use Rattle.model.specs.Model.{Words, firstState, stateCount, stage, actionCount, left, branches, actionLine, transitionAt, readAction, action, options}
+use Rattle.model.specs.Questions.{bookNumber}
+use Rattle.model.specs.Policy.{nexts, allowed}
+use Rattle.laws.specs.Members.{T-true, true-T, Every, in-every, isIn-in, in-isIn, at-nexts}
+use Rattle.accepted.specs.Facts.{accepted}
+use Rattle.accepted.specs.Shape.{options-below, below-options, action-is, shape}
+use Rattle.policy.specs.Marks.{Marks, mark}
+
+-- ---- marks
+
+or-swap : (a b c : Bool) → (a || (b || c)) ≡ (b || (a || c))
+or-swap true true c = refl
+or-swap true false c = refl
+or-swap false b c = refl
+
+-- where an element stands in a list does not matter
+in-middle : (k q : ℕ) (qs reach : List ℕ) → isIn k (qs ++ (q ∷ reach)) ≡ (eqb k q || isIn k (qs ++ reach))
+in-middle k q [] reach = refl
+in-middle k q (x ∷ qs) reach = ap (λ (t : Bool). eqb k x || t) (in-middle k q qs reach) ∙ or-swap (eqb k x) (eqb k q) (isIn k (qs ++ reach))
+
+mark-one : (q : ℕ) (marks : List Bool) (reach : List ℕ) → q < 64 → Marks marks reach → Marks (set marks q true) (q ∷ reach)
+mark-one q marks reach l m = record { long = length-set marks q true ∙ m .long; at = λ k. go k (ℕ-discrete k q) }
+  where
+    go : (k : ℕ) → Dec (k ≡ q) → getD (set marks q true) k false ≡ (eqb k q || isIn k reach)
+    go k (yes e) = rw (eq-eqb k q e, e) (getD-set-same marks q true false (omega (arith, m .long)))
+    go k (no n) = rw (ne-eqb k q n) (getD-set-other marks q k true false n ∙ m .at k)
+
+-- the states qs are known to be reached too
+pub marked : (qs reach : List ℕ) (marks : List Bool) → Every (λ (q : ℕ). q < 64) qs → Marks marks reach → Marks (mark qs marks) (qs ++ reach)
+marked [] reach marks l m = m
+marked (q ∷ qs) reach marks l m =
+    let r = marked qs (q ∷ reach) (set marks q true) (l .1) (mark-one q marks reach (l .0) m) in
+    record { long = r .long; at = λ k. r .at k ∙ in-middle k q qs reach }
+
+none-marked : (n q : ℕ) → getD (replicate n false) q false ≡ false
+none-marked zero q = refl
+none-marked (suc n) zero = refl
+none-marked (suc n) (suc q) = none-marked n q
+
+-- state 0 alone
+pub one-marked : Marks (set (replicate 64 false) 0 true) (0 ∷ [])
+one-marked = mark-one 0 (replicate 64 false) [] (omega arith) (record { long = refl; at = none-marked 64 })
+
+-- ---- bytes
+
+-- at a state that is not reached 255 alone is allowed
+pub allowed-unreached : (c : ℕ) → isIn c (255 ∷ []) ≡ eqb c 255
+allowed-unreached c = go (eqb c 255)
+  where
+    go : (b : Bool) → (b || false) ≡ b
+    go true = refl
+    go false = refl
+
+-- and at one that is reached its actions
+pub allowed-reached : (ws : Words) (p c : ℕ) → isIn c (options ws p) ≡ ltb c (actionCount ws p)
+allowed-reached ws p c = go (isIn c (options ws p)) refl (decLt c (actionCount ws p))
+  where
+    go : (b : Bool) → isIn c (options ws p) ≡ b → Dec (c < actionCount ws p) → isIn c (options ws p) ≡ ltb c (actionCount ws p)
+    go b e (yes l) = T-true (isIn c (options ws p)) (in-isIn c (options ws p) (below-options ws p c l)) ∙ sym (lt-ltb c (actionCount ws p) l)
+    go true e (no n) = absurd (n (options-below ws p (isIn-in c (options ws p) (true-T e))))
+    go false e (no n) = e ∙ sym (le-ltb c (actionCount ws p) (omega arith))
+
+-- ---- the next states of an action, marked one after another
+
+-- they have marks
+pub nexts-low : (ws : Words) → bookNumber ws ≡ 0 → (p c : ℕ) → Every (λ (q : ℕ). q < 64) (nexts (action ws p c .transitions))
+nexts-low ws ok p c =
+    in-every (λ (q : ℕ). q < 64) (nexts (action ws p c .transitions))
+    (λ q i. omega (arith, at-nexts (λ q. q < stateCount ws) (action ws p c .transitions) (shape ws ok .inside p c) q i, accepted ws ok .sizes .s-high))
+
+-- the next states of n lines from line k on, at state p
+abbrev nextsFrom : Words → ℕ → ℕ → ℕ → List ℕ
+nextsFrom ws p k n = nexts (map (transitionAt ws (stage ws p)) (upFrom k n))
+
+nexts-cons : (ws : Words) (p k n m : ℕ) → n ≡ suc m
+    → nextsFrom ws p k n ≡ (firstState ws (stage ws p + 1) + natAbs (left ws k)) ∷ nextsFrom ws p (suc k) m
+unfolding transitionAt
+nexts-cons ws p k n m e = rw e
+
+-- of action c of state p, which has r transitions, those from transition i on are still to be marked
+pub record ToMark (ws : Words) (p c r i : ℕ) (start marks : List Bool) : Type 0 where
+  pub low : Every (λ (q : ℕ). q < 64) (nextsFrom ws p (actionLine ws p c + 1 + i) (r - i))
+  pub rest : mark (nextsFrom ws p (actionLine ws p c + 1 + i) (r - i)) marks ≡ mark (nexts (action ws p c .transitions)) start
+
+module _ (ws : Words) (p c r : ℕ) where
+  pub all-to-mark : bookNumber ws ≡ 0 → p < stateCount ws → c < actionCount ws p → r ≡ branches ws (actionLine ws p c)
+      → (marks : List Bool) → ToMark ws p c r 0 marks marks
+  unfolding readAction
+  all-to-mark ok l k e marks =
+      record { low = subst (Every (λ (q : ℕ). q < 64)) are (nexts-low ws ok p c); rest = ap (λ (qs : List ℕ). mark qs marks) (sym are) }
+    where
+      are : nexts (action ws p c .transitions) ≡ nextsFrom ws p (actionLine ws p c + 1 + 0) (r - 0)
+      are = let z : r - 0 ≡ r = omega arith in rw (action-is ws p c l k, add-zero, z, e)
+
+  module _ (i : ℕ) (start marks : List Bool) (m : ToMark ws p c r i start marks) where
+    module _ (q : ℕ) (l : i < r) (e : q ≡ firstState ws (stage ws p + 1) + natAbs (left ws (actionLine ws p c + 1 + i))) where
+      cons : nextsFrom ws p (actionLine ws p c + 1 + i) (r - i) ≡ q ∷ nextsFrom ws p (actionLine ws p c + 1 + (i + 1)) (r - (i + 1))
+      cons =
+          let k : suc (actionLine ws p c + 1 + i) ≡ actionLine ws p c + 1 + (i + 1) = omega arith in
+          nexts-cons ws p (actionLine ws p c + 1 + i) (r - i) (r - (i + 1)) (omega arith) ∙ rw (e, k)
+
+      pub next-low : q < 64
+      next-low = (rw cons at (m .low)) .0
+
+      pub next-marked : ToMark ws p c r (i + 1) start (set marks q true)
+      next-marked = record { low = (rw cons at (m .low)) .1; rest = ap (λ (qs : List ℕ). mark qs marks) (sym cons) ∙ m .rest }
+
+    pub all-marked : r ≤ i → marks ≡ mark (nexts (action ws p c .transitions)) start
+    all-marked l = let z : r - i ≡ 0 = omega arith in rw z at (m .rest)
