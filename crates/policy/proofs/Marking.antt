@@ -1,24 +1,24 @@
--- Marking states, and the bytes that are allowed at a state.
+-- Marking states: what the marks say afterwards, and the next states of one action, marked one after another.
 -- Assumes nothing.
 use mathlib.Core.Path.{_≡_, refl, sym, ap, _∙_, subst}
 use mathlib.Core.Bool.{Bool, true, false, _||_}
 use mathlib.Core.List.{List, [], _∷_, _++_, map}
 use Prim.Native.Nat.{ℕ, zero, suc, _+_, _-_, _≤_, _<_}
 use native.Mathlib.Nat.{add-zero}
-use native.Mathlib.Decide.{ℕ-discrete, decLt}
+use native.Mathlib.Decide.{ℕ-discrete}
 use native.Mathlib.Omega.{arith}
-use borrow.Author.Tests.{eq-eqb, ne-eqb, lt-ltb, le-ltb}
-use lib.Dec.{T, ltb, eqb}
-use lib.ListN.{length, getD, set, replicate, length-set}
-use lib.Seq.{getD-set-same, getD-set-other}
-use Rattle.model.specs.Lists.{isIn, upFrom}
+use borrow.Author.Tests.{eq-eqb, ne-eqb}
+use lib.Dec.{eqb}
 use lib.IntN.{natAbs}
-use Rattle.model.specs.Model.{Words, firstState, stateCount, stage, actionCount, left, branches, actionLine, transitionAt, readAction, action, options}
+use lib.ListN.{getD, set, replicate, length-set}
+use lib.Seq.{getD-set-same, getD-set-other}
+use Rattle.model.specs.Lists.{upFrom, isIn}
+use Rattle.model.specs.Model.{Words, firstState, stateCount, stage, actionCount, left, branches, actionLine, transitionAt, readAction, action}
 use Rattle.model.specs.Questions.{bookNumber}
-use Rattle.model.specs.Policy.{nexts, allowed}
-use Rattle.laws.specs.Members.{T-true, true-T, Every, in-every, isIn-in, in-isIn, at-nexts}
+use Rattle.model.specs.Policy.{nexts}
+use Rattle.laws.specs.Members.{In, Every, in-every, at-nexts}
 use Rattle.accepted.specs.Facts.{accepted}
-use Rattle.accepted.specs.Shape.{options-below, below-options, action-is, shape}
+use Rattle.accepted.specs.Shape.{action-is, shape}
 use Rattle.policy.specs.Marks.{Marks, mark}
 
 -- ---- marks
@@ -56,32 +56,15 @@ none-marked (suc n) (suc q) = none-marked n q
 pub one-marked : Marks (set (replicate 64 false) 0 true) (0 ∷ [])
 one-marked = mark-one 0 (replicate 64 false) [] (omega arith) (record { long = refl; at = none-marked 64 })
 
--- ---- bytes
+-- ---- the next states of an action
 
--- at a state that is not reached 255 alone is allowed
-pub allowed-unreached : (c : ℕ) → isIn c (255 ∷ []) ≡ eqb c 255
-allowed-unreached c = go (eqb c 255)
-  where
-    go : (b : Bool) → (b || false) ≡ b
-    go true = refl
-    go false = refl
-
--- and at one that is reached its actions
-pub allowed-reached : (ws : Words) (p c : ℕ) → isIn c (options ws p) ≡ ltb c (actionCount ws p)
-allowed-reached ws p c = go (isIn c (options ws p)) refl (decLt c (actionCount ws p))
-  where
-    go : (b : Bool) → isIn c (options ws p) ≡ b → Dec (c < actionCount ws p) → isIn c (options ws p) ≡ ltb c (actionCount ws p)
-    go b e (yes l) = T-true (isIn c (options ws p)) (in-isIn c (options ws p) (below-options ws p c l)) ∙ sym (lt-ltb c (actionCount ws p) l)
-    go true e (no n) = absurd (n (options-below ws p (isIn-in c (options ws p) (true-T e))))
-    go false e (no n) = e ∙ sym (le-ltb c (actionCount ws p) (omega arith))
-
--- ---- the next states of an action, marked one after another
-
--- they have marks
+-- they are among the 64 states that have marks
 pub nexts-low : (ws : Words) → bookNumber ws ≡ 0 → (p c : ℕ) → Every (λ (q : ℕ). q < 64) (nexts (action ws p c .transitions))
 nexts-low ws ok p c =
-    in-every (λ (q : ℕ). q < 64) (nexts (action ws p c .transitions))
-    (λ q i. omega (arith, at-nexts (λ q. q < stateCount ws) (action ws p c .transitions) (shape ws ok .inside p c) q i, accepted ws ok .sizes .s-high))
+    in-every (λ (q : ℕ). q < 64) (nexts (action ws p c .transitions)) (λ q i. omega (arith, inside q i, accepted ws ok .sizes .s-high))
+  where
+    inside : (q : ℕ) → In q (nexts (action ws p c .transitions)) → q < stateCount ws
+    inside = at-nexts (λ q. q < stateCount ws) (action ws p c .transitions) (shape ws ok .inside p c)
 
 -- the next states of n lines from line k on, at state p
 abbrev nextsFrom : Words → ℕ → ℕ → ℕ → List ℕ
@@ -114,11 +97,11 @@ module _ (ws : Words) (p c r : ℕ) where
           let k : suc (actionLine ws p c + 1 + i) ≡ actionLine ws p c + 1 + (i + 1) = omega arith in
           nexts-cons ws p (actionLine ws p c + 1 + i) (r - i) (r - (i + 1)) (omega arith) ∙ rw (e, k)
 
-      pub next-low : q < 64
-      next-low = (rw cons at (m .low)) .0
-
-      pub next-marked : ToMark ws p c r (i + 1) start (set marks q true)
-      next-marked = record { low = (rw cons at (m .low)) .1; rest = ap (λ (qs : List ℕ). mark qs marks) (sym cons) ∙ m .rest }
+      -- q, the next state of transition i, has a mark; once it is set, those from i + 1 on are left
+      pub mark-next : (q < 64) × ToMark ws p c r (i + 1) start (set marks q true)
+      mark-next =
+          let low = rw cons at (m .low) in
+          (low .0, record { low = low .1; rest = ap (λ (qs : List ℕ). mark qs marks) (sym cons) ∙ m .rest })
 
     pub all-marked : r ≤ i → marks ≡ mark (nexts (action ws p c .transitions)) start
     all-marked l = let z : r - i ≡ 0 = omega arith in rw z at (m .rest)

@@ -3,28 +3,30 @@
 use mathlib.Core.Path.{_≡_, refl, sym, ap, _∙_}
 use mathlib.Core.Bool.{Bool, true, false, _&&_}
 use mathlib.Core.List.{List, [], _∷_}
-use Prim.Native.Nat.{ℕ, zero, suc, _+_, _-_, _≤_, _<_}
-use native.Mathlib.Omega.{arith}
+use Prim.Native.Nat.{ℕ, suc, _+_, _-_, _≤_, _<_}
 use native.Mathlib.Numerals.{add-one}
+use native.Mathlib.Omega.{arith}
+use borrow.Author.Tests.{ltb-true}
 use lib.ListN.{length, getD, drop, drop-of-length-le}
 use lib.Seq.{drop-cons}
 use Rattle.model.specs.Lists.{isIn}
-use Rattle.model.specs.Model.{Words, Action, stateCount, action, options}
+use Rattle.model.specs.Model.{Words, stateCount, actionCount, action, options}
 use Rattle.model.specs.Questions.{bookNumber}
 use Rattle.model.specs.Policy.{Policy, nexts, allowed, onward, fits, isPolicy}
-use Rattle.laws.specs.Members.{true-T, in-one}
+use Rattle.laws.specs.Members.{true-T, in-one, isIn-in}
 use Rattle.laws.specs.Policies.{policy-length}
 use Rattle.accepted.specs.Shape.{policy-is, shape}
 use Rattle.policy.specs.Marks.{Marks, mark}
-use Rattle.policy.proofs.Marking.{allowed-reached, nexts-low, marked}
+use Rattle.policy.proofs.Marking.{marked, nexts-low}
+use Rattle.policy.proofs.Allowed.{allowed-reached}
 
--- the marks are those of the states known to be reached, and the bytes from state p on settle the question
+-- there is a byte for each state, the marks are those of the states known to be reached, and the bytes from state p on settle the question
 pub record Pass (ws : Words) (bs : Policy) (p : ℕ) (marks : List Bool) : Type 0 where
+  pub long : length bs ≡ stateCount ws
   pub reach : List ℕ
   pub marks-are : Marks marks reach
   pub rest : isPolicy ws bs ≡ fits (action ws) (options ws) (stateCount ws - p) p reach (drop p bs)
 
--- a policy has a byte for each state
 pub wrong-length : (ws : Words) (bs : Policy) → (length bs ≡ stateCount ws → ⊥) → isPolicy ws bs ≡ false
 wrong-length ws bs h = go (isPolicy ws bs) refl
   where
@@ -32,46 +34,53 @@ wrong-length ws bs h = go (isPolicy ws bs) refl
     go true e = absurd (h (policy-length (action ws) (options ws) (stateCount ws) 0 (0 ∷ []) bs (policy-is ws bs .0 (true-T e))))
     go false e = e
 
-pub begin : (ws : Words) (bs : Policy) (marks : List Bool) → Marks marks (0 ∷ []) → Pass ws bs 0 marks
+pub begin : (ws : Words) (bs : Policy) (marks : List Bool) → length bs ≡ stateCount ws → Marks marks (0 ∷ []) → Pass ws bs 0 marks
 unfolding isPolicy
-begin ws bs marks m = let z : stateCount ws - 0 ≡ stateCount ws = omega arith in record { reach = 0 ∷ []; marks-are = m; rest = rw z }
+begin ws bs marks e m =
+    let z : stateCount ws - 0 ≡ stateCount ws = omega arith in
+    record { long = e; reach = 0 ∷ []; marks-are = m; rest = rw z }
 
 module _ (ws : Words) (bs : Policy) (p : ℕ) (marks : List Bool) (h : Pass ws bs p marks) where
-  pub finish : length bs ≡ stateCount ws → stateCount ws ≤ p → isPolicy ws bs ≡ true
-  finish e l =
-      let z : stateCount ws - p ≡ 0 = omega arith in
-      h .rest ∙ rw (z, drop-of-length-le bs {p} (omega arith))
+  pub finish : stateCount ws ≤ p → isPolicy ws bs ≡ true
+  finish l = let z : stateCount ws - p ≡ 0 = omega arith in h .rest ∙ rw (z, drop-of-length-le bs {i = p} (omega arith))
 
-  module _ (e : length bs ≡ stateCount ws) (l : p < stateCount ws) where
+  module _ (l : p < stateCount ws) where
     -- the byte at p
     abbrev c : ℕ
     c = getD bs p 0
 
-    test : Bool
-    test = isIn c (allowed (options ws p) (getD marks p false))
+    -- the states known to be reached after it
+    abbrev after : List ℕ
+    after = onward (action ws) p c (h .reach)
 
-    -- the question by the byte at p and those after it
+    -- the question by that byte and those after it
     by-byte : isPolicy ws bs ≡ (isIn c (allowed (options ws p) (getD marks p false))
-        && fits (action ws) (options ws) (stateCount ws - (p + 1)) (p + 1) (onward (action ws) p c (h .reach)) (drop (p + 1) bs))
+        && fits (action ws) (options ws) (stateCount ws - (p + 1)) (p + 1) after (drop (p + 1) bs))
     by-byte =
         let n : stateCount ws - p ≡ suc (stateCount ws - (p + 1)) = omega arith in
         h .rest ∙ rw (n, drop-cons bs p 0 (omega arith), h .marks-are .at p, add-one)
 
-    pub refused : isIn c (allowed (options ws p) (getD marks p false)) ≡ false → isPolicy ws bs ≡ false
-    refused no = by-byte ∙ rw no
+    pub byte-refused : isIn c (allowed (options ws p) (getD marks p false)) ≡ false → isPolicy ws bs ≡ false
+    byte-refused f = by-byte ∙ rw f
 
-    module _ (yes : isIn c (allowed (options ws p) (getD marks p false)) ≡ true) where
-      rest-is : isPolicy ws bs ≡ fits (action ws) (options ws) (stateCount ws - (p + 1)) (p + 1) (onward (action ws) p c (h .reach)) (drop (p + 1) bs)
-      rest-is = by-byte ∙ rw yes
+    module _ (t : isIn c (allowed (options ws p) (getD marks p false)) ≡ true) where
+      passed : (ms : List Bool) → Marks ms after → Pass ws bs (p + 1) ms
+      passed ms m = record { long = h .long; reach = after; marks-are = m; rest = by-byte ∙ rw t }
 
-      -- at a reached state the next states of its action are reached too
-      pub pass-reached : bookNumber ws ≡ 0 → Pass ws bs (p + 1) (mark (nexts (action ws p c .transitions)) marks)
-      pass-reached ok = record {
-        reach = onward (action ws) p c (h .reach);
-        marks-are = marked (nexts (action ws p c .transitions)) (h .reach) marks (nexts-low ws ok p c) (h .marks-are);
-        rest = rest-is;
-      }
+      -- at a reached state the byte is one of its actions
+      pub byte-action : getD marks p false ≡ true → c < actionCount ws p
+      byte-action r = ltb-true c (actionCount ws p) (sym (allowed-reached ws p c) ∙ (rw r at t))
 
-      -- at another state there is nothing to add: no action is numbered 255
-      pub pass-unreached : bookNumber ws ≡ 0 → getD marks p false ≡ false → Pass ws bs (p + 1) marks
-      pass-unreached ok f = ?
+      module _ (ok : bookNumber ws ≡ 0) where
+        -- whose next states are reached too
+        pub pass-reached : Pass ws bs (p + 1) (mark (nexts (action ws p c .transitions)) marks)
+        pass-reached =
+            passed (mark (nexts (action ws p c .transitions)) marks)
+            (marked (nexts (action ws p c .transitions)) (h .reach) marks (nexts-low ws ok p c) (h .marks-are))
+
+        -- at any other it is 255, which stands for no action
+        pub pass-unreached : getD marks p false ≡ false → Pass ws bs (p + 1) marks
+        pass-unreached r = passed marks (rw none (h .marks-are))
+          where
+            none : action ws p c .transitions ≡ []
+            none = ap (λ (x : ℕ). action ws p x .transitions) (in-one (isIn-in c (255 ∷ []) (true-T (rw r at t)))) ∙ shape ws ok .bare p

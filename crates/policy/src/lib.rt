@@ -32,7 +32,7 @@ fn byte_allowed(b: &[i32], z: Sizes, p: usize, reached: bool, c: usize) -> bool
     c < index::count(b, z, p)
 }
 
-// Marks the next states of action c of state p.
+// Marks the next states of action c of state p. They are counted from the first state of the next stage, which x has at 64 + p.
 fn mark_nexts(b: &[i32], z: Sizes, x: &[usize; 192], p: usize, c: usize, marks: &mut [bool; 64])
     requires { ⌜ (bookNumber (now b) ≡ 0) × SizesAre (now b) z × IndexOf (now b) (now x) × (p < stateCount (now b)) × (c < actionCount (now b) p) ⌝ }
     ensures { λ _. ⌜ now (marks .exit) ≡ mark (nexts (action (now (b .entry)) p c .transitions)) (now (marks .entry)) ⌝ }
@@ -48,7 +48,7 @@ fn mark_nexts(b: &[i32], z: Sizes, x: &[usize; 192], p: usize, c: usize, marks: 
     }
 }
 
-// Is the slice a policy of the book, whose index is x?
+// 17: is the slice a policy of the book, whose index is x?
 pub fn is_policy(b: &[i32], z: Sizes, x: &[usize; 192], plan: &[u8]) -> bool
     requires { ⌜ (bookNumber (now b) ≡ 0) × SizesAre (now b) z × IndexOf (now b) (now x) ⌝ }
     ensures { λ r. ⌜ r ≡ isPolicy (now (b .entry)) (now (plan .entry)) ⌝ }

@@ -4,7 +4,7 @@
 use mathlib.Core.Path.{_≡_, refl, ap, _∙_, fun-ext}
 use mathlib.Core.Bool.{Bool, true, false, cond}
 use mathlib.Core.List.{List, [], _∷_}
-use Prim.Native.Nat.{ℕ, _<_}
+use Prim.Native.Nat.{ℕ, zero, suc, _<_}
 use native.Mathlib.Omega.{arith}
 use borrow.Author.Tests.{ltb-false, eqb-false, eq-eqb}
 use lib.Dec.{eqb, ltb}
@@ -18,6 +18,14 @@ bar (x ∷ xs) zs = without x (bar xs zs)
 -- the lists of the candidate, where `all` are those of the model
 abbrev pub candidate : (ℕ → List ℕ) → (ℕ → ℕ) → ℕ → List ℕ → ℕ → List ℕ
 candidate all g q xs = splitAt g q (bar xs (all q)) all
+
+-- with split state 0 and no action barred, they are those of the model
+pub candidate-start : (all : ℕ → List ℕ) (g : ℕ → ℕ) → candidate all g 0 [] ≡ all
+candidate-start all g = fun-ext go
+  where
+    go : (s : ℕ) → candidate all g 0 [] s ≡ all s
+    go zero = split-eq g 0 (all 0) all
+    go (suc s) = split-gt g 0 (all 0) all (suc s) (omega arith)
 
 -- lists split at one state are the same if they are at that state and after it
 split-same : (f : ℕ → ℕ) (r : ℕ) (xs ys : List ℕ) (os us : ℕ → List ℕ) → xs ≡ ys → ((s : ℕ) → r < s → os s ≡ us s)

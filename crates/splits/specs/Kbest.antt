@@ -2,11 +2,11 @@
 -- first policy. Its children are the parts of the others. The search over these candidates, from the lists of the model on, lists the first K of the
 -- model's policies.
 -- Assumes nothing.
-use mathlib.Core.Path.{_≡_, refl, sym, ap, _∙_, subst}
+use mathlib.Core.Path.{_≡_, refl, subst}
 use mathlib.Core.Bool.{Bool, true, false}
 use mathlib.Core.Logic.{_⊎_, inl, inr}
 use mathlib.Core.List.{List, [], _∷_}
-use Prim.Native.Nat.{ℕ, zero, suc, _+_, _≤_, _<_}
+use Prim.Native.Nat.{ℕ, suc, _<_}
 use native.Mathlib.Nat.{zero-add}
 use native.Mathlib.Decide.{decLt}
 use native.Mathlib.Omega.{arith}
@@ -25,7 +25,7 @@ use Rattle.laws.specs.Policies.{IsPolicy, policy-in, in-policy, policies-apart,
 use Rattle.laws.specs.Order.{lower-is, before-is, strict, total}
 use Rattle.laws.specs.Greedy.{byte-cases}
 use Rattle.laws.specs.First.{Shape, Lists, costFrom0, firstPolicy, is-policy, cheapest, comes-first}
-use Rattle.splits.specs.Parts.{without, without-in, rising-without, splitAt, split-lt, split-eq, split-gt, part}
+use Rattle.splits.specs.Parts.{without, without-in, rising-without, split-lt, split-eq, split-gt, part}
 use Rattle.splits.specs.Parts.{Reaches, reaches-late, cover, sound, disjoint, action-left}
 use Rattle.splits.specs.Search.{run, Some, Pairs, Scheme, run-is}
 
@@ -104,23 +104,30 @@ module _ (act : ℕ → ℕ → Action) (os : ℕ → List ℕ) (f : ℕ → ℕ
       go true [] s = s
       go true (x ∷ xs) s = inr s
 
+-- the child of a candidate at state r
+abbrev pub childAt : ℕ → ℕ → (ℕ → ℕ → Action) → (ℕ → ℕ) → (ℕ → List ℕ) → ℕ → ℕ → List ℕ
+childAt D S act togo os r = part os (byteAt (firstPolicy D S act togo os)) r
+
 -- the children of a candidate: the parts of its policies other than the first
 abbrev pub children : ℕ → ℕ → (ℕ → ℕ → Action) → (ℕ → ℕ) → (ℕ → List ℕ) → List (ℕ → List ℕ)
 children D S act togo os =
     childrenFrom act os (byteAt (firstPolicy D S act togo os)) 0 (0 ∷ []) (firstPolicy D S act togo os)
 
--- ---- a part has lists as the laws ask for
+-- ---- a child that has an action left at its state is lists as the laws ask for
 
-module _ (S : ℕ) (act : ℕ → ℕ → Action) (togo : ℕ → ℕ) (sh : Shape S act togo) (Alive : ℕ → Type 0) (os : ℕ → List ℕ) (l : Lists Alive act os) where
-  pub part-lists : (f : ℕ → ℕ) → ((p : ℕ) → In (f p) (os p) ⊎ (f p ≡ 255)) → (r b : ℕ) → In b (without (f r) (os r))
-      → Lists Alive act (part os f r)
-  part-lists f by r b i = record {
+module _ (D S : ℕ) (act : ℕ → ℕ → Action) (togo : ℕ → ℕ) (sh : Shape S act togo) (Alive : ℕ → Type 0) (os : ℕ → List ℕ)
+    (l : Lists Alive act os) where
+  pub child-lists : (r b : ℕ) → In b (without (byteAt (firstPolicy D S act togo os) r) (os r)) → Lists Alive act (childAt D S act togo os r)
+  child-lists r b i = record {
     rising = λ p. rising p (decLt p r) (decLt r p);
     first-alive = l .first-alive;
     some-action = λ p h. some p h (decLt p r) (decLt r p);
     stays-alive = λ p c h j. stays p c h (decLt p r) (decLt r p) j;
   }
     where
+      f : ℕ → ℕ
+      f = byteAt (firstPolicy D S act togo os)
+
       xs : List ℕ
       xs = without (f r) (os r)
 
@@ -142,7 +149,7 @@ module _ (S : ℕ) (act : ℕ → ℕ → Action) (togo : ℕ → ℕ) (sh : Sha
       held p h (inr e) = rw (e, sh .bare p) tt
 
       stays : (p c : ℕ) → Alive p → Dec (p < r) → Dec (r < p) → In c (part os f r p) → AtNexts Alive (act p c .transitions)
-      stays p c h (yes u) v j = rw (in-one (rw (split-lt f r xs os p u) at j)) (held p h (by p))
+      stays p c h (yes u) v j = rw (in-one (rw (split-lt f r xs os p u) at j)) (held p h (rw zero-add at (byte-cases D act os togo S 0 (0 ∷ []) p)))
       stays p c h (no u) (yes v) j = l .stays-alive p c h (rw (split-gt f r xs os p v) at j)
       stays p c h (no u) (no v) j =
           l .stays-alive p c h (rw (same p u v) (without-in (f r) c (os r) (rw (same p u v, split-eq f r xs os) at j) .0))
@@ -170,9 +177,6 @@ module _ (D S : ℕ) (act : ℕ → ℕ → Action) (togo : ℕ → ℕ) (sh : S
 
   first-has : (os : Options) → Valid os → Has os (first os)
   first-has os v = is-policy D S act togo sh Alive os (v .lists)
-
-  first-byte : (os : Options) (p : ℕ) → In (byteAt (first os) p) (os p) ⊎ (byteAt (first os) p ≡ 255)
-  first-byte os p = rw zero-add at (byte-cases D act os togo S 0 (0 ∷ []) p)
 
   firsts : (os : Options) (u : Policy) → Valid os → Has os u → (first os ≡ u) ⊎ T (before cost (first os) u)
   firsts os u v h = go (leZ (cost u) (cost (first os))) refl
@@ -204,7 +208,7 @@ module _ (D S : ℕ) (act : ℕ → ℕ → Action) (togo : ℕ → ℕ) (sh : S
   fewer : (os : Options) → Valid os → (r : ℕ) → Reaches act r 0 (0 ∷ []) (first os) → (b : ℕ) → In b (without (byteAt (first os) r) (os r))
       → Valid (part os (byteAt (first os)) r) × ((u : Policy) → Has (part os (byteAt (first os)) r) u → Has os u × (first os ≡ u → ⊥))
   fewer os v r i b j = (
-    record { lists = part-lists S act togo sh Alive os (v .lists) f (first-byte os) r b j; among = λ u h. v .among u (some u h .0) },
+    record { lists = child-lists D S act togo sh Alive os (v .lists) r b j; among = λ u h. v .among u (some u h .0) },
     some,
   )
     where

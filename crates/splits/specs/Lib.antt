@@ -3,3 +3,4 @@ pub mod Search
 pub mod Barred
 pub mod Kbest
 pub mod Reach
+pub mod ChildCost

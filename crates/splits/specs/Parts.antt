@@ -1,6 +1,7 @@
--- The policies of a set other than one of them. `os` are lists of actions, one for each state, and f has the bytes gs of a policy of these lists. The
--- other policies of the lists fall into parts by the first state where they differ from gs, which is one that gs reaches. The part of state r takes
--- the actions of gs before r, another action than gs at r, and any actions of the lists after r: so it is again the policies of some lists.
+-- The policies of a set other than one of them, its first for example. `os` are lists of actions, one for each state, and f has the bytes gs of a
+-- policy of these lists. The other policies of the lists fall into parts by the first state where they differ from gs, which is one that gs reaches.
+-- The part of state r has the policies that take the actions of gs before r, another action than gs at r, and any actions of the lists after r: it
+-- is again the policies of some lists. No policy is in two parts.
 -- Assumes nothing.
 use mathlib.Core.Path.{_≡_, refl, sym, ap₂, _∙_, subst}
 use mathlib.Core.Bool.{Bool, true, false, cond}
@@ -128,7 +129,7 @@ module _ (act : ℕ → ℕ → Action) where
 -- ---- the parts
 
 module _ (act : ℕ → ℕ → Action) where
-  -- whether bytes are a policy from state p on turns only on the lists from p on
+  -- whether bytes are a policy from state p on depends only on the lists from p on
   same-lists : (os us : ℕ → List ℕ) (n p : ℕ) → ((s : ℕ) → p ≤ s → os s ≡ us s) → (reach : List ℕ) (bs : Policy)
       → IsPolicy act os n p reach bs → IsPolicy act us n p reach bs
   same-lists os us zero p e reach [] h = tt
@@ -141,7 +142,7 @@ module _ (act : ℕ → ℕ → Action) where
 
   module _ (os : ℕ → List ℕ) (f : ℕ → ℕ) where
     -- before state r the bytes of a part are those of gs
-    pub held : (r p b : ℕ) (c : Bool) → p < r → In b (allowed (part os f r p) c) → (g : ℕ) → f p ≡ g → In g (allowed (os p) c) → b ≡ g
+    held : (r p b : ℕ) (c : Bool) → p < r → In b (allowed (part os f r p) c) → (g : ℕ) → f p ≡ g → In g (allowed (os p) c) → b ≡ g
     held r p b true h i g e j = in-one (rw split-lt at i) ∙ e
     held r p b false h i g e j = in-one i ∙ sym (in-one j)
 
@@ -250,3 +251,23 @@ module _ (act : ℕ → ℕ → Action) where
     action-left r (suc n) p reach (g ∷ gs) (b ∷ bs) h e (inr i) k =
         let q : b ≡ g = held r p b (isIn p reach) (reaches-late act r (suc p) (onward act p g reach) gs i) (k .0) g (e .0) (h .0) in
         action-left r n (suc p) (onward act p g reach) gs bs (h .1) (e .1) i (rw (← q) (k .1))
+
+    -- a policy of the part of state r has the bytes of gs before r, and reaches r too
+    pub part-front : (r n p : ℕ) (reach : List ℕ) (gs bs : Policy) → IsPolicy act os n p reach gs → Reads f p gs → Reaches act r p reach gs
+        → IsPolicy act (part os f r) n p reach bs → (h : ℕ → ℕ) → Reads h p bs
+        → ((q : ℕ) → p ≤ q → q < r → h q ≡ f q) × Reaches act r p reach bs
+    part-front r zero p reach [] bs g e i k h d = absurd i
+    part-front r zero p reach (g′ ∷ gs) bs g e i k h d = absurd g
+    part-front r (suc n) p reach [] bs g e i k h d = absurd g
+    part-front r (suc n) p reach (g′ ∷ gs) [] g e i k h d = absurd k
+    part-front r (suc n) p reach (g′ ∷ gs) (b ∷ bs) g e (inl i) k h d = (λ q a l. absurd (omega arith), inl i)
+    part-front r (suc n) p reach (g′ ∷ gs) (b ∷ bs) g e (inr i) k h d =
+        let ih = part-front r n (suc p) (onward act p g′ reach) gs bs (g .1) (e .1) i (rw (← q) (k .1)) h (d .1) in
+        (λ s a l. go s (eq-or-lt-of-le a) (λ m. ih .0 s m l), inr (rw q (ih .1)))
+      where
+        q : b ≡ g′
+        q = held r p b (isIn p reach) (reaches-late act r (suc p) (onward act p g′ reach) gs i) (k .0) g′ (e .0) (g .0)
+
+        go : (s : ℕ) → (p ≡ s) ⊎ (p < s) → (p < s → h s ≡ f s) → h s ≡ f s
+        go s (inl j) ih = subst (λ z. h z ≡ f z) j (d .0 ∙ q ∙ sym (e .0))
+        go s (inr m) ih = ih m

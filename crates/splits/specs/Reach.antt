@@ -1,6 +1,7 @@
--- Reach weights. The reach weight of a state is the sum, over all ways from state 0 to it, of the product of the weights on the way, where `taken` is
--- the action at each state. Next states are later states, so one pass through the states in order finds them all. Where the actions of a policy change
--- from state r on, and of the states reached only the cost-to-go of r moves, the cost moves by the reach weight of r times as much.
+-- Reach weights. `taken` is the action at each state. The reach weight of a state is the sum, over all ways from state 0 to it, of the product of the
+-- weights on the way. Next states are later states, so one pass through the states in order computes all reach weights. If the actions before state r
+-- stay, and after r the cost-to-go stays at every state with a weight, a change of the cost-to-go of r changes that of state 0 by the reach weight of
+-- r times as much.
 -- Assumes nothing.
 use mathlib.Core.Path.{_≡_, refl, sym, ap, ap₂, _∙_, subst}
 use mathlib.Core.Bool.{Bool, true, false, cond}
@@ -9,8 +10,8 @@ use mathlib.Core.List.{List, [], _∷_}
 use Prim.Native.Nat.{ℕ, zero, suc, _+_, _*_, _-_, _^_, _≤_, _<_}
 use native.Mathlib.Nat.{eq-or-lt-of-le, add-zero, zero-add, add-suc, suc-add, mul-pos, mul-le-mul-right, pow-suc, pow-zero}
 use native.Mathlib.Omega.{arith}
-use borrow.Author.Tests.{eqb-true, eqb-false, eq-eqb, ne-eqb}
-use lib.Dec.{T, eqb}
+use borrow.Author.Tests.{eqb-true, eq-eqb, ne-eqb}
+use lib.Dec.{eqb}
 use lib.IntN.{ℤ, pos, _+ℤ_, _-ℤ_, _*ℤ_, +ℤ-assoc, +ℤ-comm, -ℤ-+ℤ-cancel, zero-*ℤ}
 use lib.Signed.{_≤ℤ_, ≤ℤ-refl}
 use lib.ListN.{take, drop}
@@ -20,7 +21,7 @@ use Rattle.model.specs.Policy.{Policy, nexts, onward}
 use Rattle.model.specs.Path.{byteAt}
 use Rattle.model.specs.Recursion.{expected, actionCost, costToGo}
 use Rattle.laws.specs.Int.{up, dn, is, dif-eq, ring, eq-in, le-in, le-out, ints, sum-is, scale-mono, ≤ℤ-trans}
-use Rattle.laws.specs.Members.{true-T, In, in-one, in-++, ++-in, Every, every-imp, every-both, isIn-in, AtNexts}
+use Rattle.laws.specs.Members.{true-T, In, in-one, in-++, ++-in, Every, every-imp, isIn-in, AtNexts}
 use Rattle.laws.specs.Paths.{weightsOf}
 use Rattle.laws.specs.Policies.{IsPolicy, reachedFrom, reached-mono, reached-late, Reads, reads}
 
@@ -35,10 +36,14 @@ unfoldable pub spread : ℕ → List Transition → (ℕ → ℕ) → ℕ → �
 spread x [] W s = W s
 spread x (t ∷ ts) W s = spread x ts (addTo (t .next) (x * t .weight) W) s
 
--- what is known of the reach weights before the pass comes to state p: for p itself and the states before it, all of it
+-- the weights before the pass comes to state p: 1 at state 0 to begin with; then each state in turn adds to its next states
 unfoldable pub weightsBefore : (ℕ → Action) → ℕ → ℕ → ℕ
 weightsBefore taken zero s = addTo 0 1 (λ q. 0) s
 weightsBefore taken (suc p) s = spread (weightsBefore taken p p) (taken p .transitions) (weightsBefore taken p) s
+
+-- the reach weight of state r by a policy
+abbrev pub reachWeight : (ℕ → ℕ → Action) → Policy → ℕ → ℕ
+reachWeight act bs r = weightsBefore (λ p. act p (byteAt bs p)) r r
 
 add-at : (q x : ℕ) (W : ℕ → ℕ) → addTo q x W q ≡ W q + x
 unfolding addTo
@@ -48,12 +53,69 @@ add-off : (q x : ℕ) (W : ℕ → ℕ) (s : ℕ) → (s ≡ q → ⊥) → addT
 unfolding addTo
 add-off q x W s n = rw (ne-eqb s q n) (omega arith)
 
--- they turn only on the actions of the states before p
+spread-off : (x : ℕ) (ts : List Transition) (W : ℕ → ℕ) (s : ℕ) → AtNexts (λ q. s ≡ q → ⊥) ts → spread x ts W s ≡ W s
+unfolding spread
+spread-off x [] W s h = refl
+spread-off x (t ∷ ts) W s h =
+    spread-off x ts (addTo (t .next) (x * t .weight) W) s (h .1) ∙ add-off (t .next) (x * t .weight) W s (h .0)
+
+-- they depend only on the actions of the states before p
 pub weights-same : (taken taken′ : ℕ → Action) (p : ℕ) → ((q : ℕ) → q < p → taken′ q ≡ taken q) → weightsBefore taken′ p ≡ weightsBefore taken p
 unfolding weightsBefore
 weights-same taken taken′ zero h = refl
 weights-same taken taken′ (suc p) h =
     ap₂ (λ (a : Action) (W : ℕ → ℕ). spread (W p) (a .transitions) W) (h p (omega arith)) (weights-same taken taken′ p (λ q l. h q (omega arith)))
+
+-- before the pass comes to state p, the weights of the states up to p are settled
+pub weights-settled : (taken : ℕ → Action) → ((p : ℕ) → AtNexts (λ q. p < q) (taken p .transitions))
+    → (p s : ℕ) → s ≤ p → weightsBefore taken p s ≡ weightsBefore taken s s
+unfolding weightsBefore
+weights-settled taken later zero s l = let e : s ≡ 0 = omega arith in rw e
+weights-settled taken later (suc p) s l = go (eq-or-lt-of-le l) (λ k. weights-settled taken later p s k)
+  where
+    go : (s ≡ suc p) ⊎ (s < suc p) → (s ≤ p → weightsBefore taken p s ≡ weightsBefore taken s s)
+        → weightsBefore taken (suc p) s ≡ weightsBefore taken s s
+    go (inl e) ih = rw e
+    go (inr k) ih =
+        spread-off (weightsBefore taken p p) (taken p .transitions) (weightsBefore taken p) s
+        (every-imp (λ t m. let n : s ≡ t .next → ⊥ = omega arith in n) (taken p .transitions) (later p))
+        ∙ ih (omega arith)
+
+-- ---- sums of integers
+
+more-here : (w x : ℕ) (z t : ℤ) → pos (w + x) *ℤ z +ℤ t ≡ pos w *ℤ z +ℤ t +ℤ pos x *ℤ z
+more-here w x z t = rw (is z, is t) (simp ring (dif-eq _ _ _ _ (omega arith)))
+
+no-more : (x : ℕ) (t : ℤ) → t ≡ t +ℤ pos x *ℤ pos 0
+no-more x t = rw (is t) (simp ring (dif-eq _ _ _ _ (omega arith)))
+
+one-more : (x w : ℕ) (t z e : ℤ) → t +ℤ pos (x * w) *ℤ z +ℤ pos x *ℤ e ≡ t +ℤ pos x *ℤ (pos w *ℤ z +ℤ e)
+one-more x w t z e = rw (is t, is z, is e) (simp ring (dif-eq _ _ _ _ (omega arith)))
+
+once : (z : ℤ) → pos 0 +ℤ pos 1 *ℤ z ≡ z
+once z = rw (is z) (simp ring (dif-eq _ _ _ _ (omega arith)))
+
+moved : (a b c : ℤ) → a +ℤ b +ℤ c ≡ c +ℤ a +ℤ b
+moved a b c = rw (is a, is b, is c) (simp ring (dif-eq _ _ _ _ (omega arith)))
+
+cancel-out : (w : ℕ) (t u o e : ℤ) → t +ℤ pos w *ℤ (o +ℤ e) ≡ u +ℤ pos w *ℤ e → t +ℤ pos w *ℤ o ≡ u
+cancel-out w t u o e h = linear (pos w *ℤ o) (pos w *ℤ e) (ap (λ (z : ℤ). t +ℤ z) (sym apart) ∙ h)
+  where
+    apart : pos w *ℤ (o +ℤ e) ≡ pos w *ℤ o +ℤ pos w *ℤ e
+    apart = rw (is o, is e) (simp ring (dif-eq _ _ _ _ (omega arith)))
+
+    linear : (y z : ℤ) → t +ℤ (y +ℤ z) ≡ u +ℤ z → t +ℤ y ≡ u
+    linear y z k = eq-in (omega (arith, ap up k, ap dn k, sum-is t (y +ℤ z), sum-is y z, sum-is u z, sum-is t y))
+
+cancel-both : (a b u x y : ℤ) → a +ℤ (u +ℤ y) ≡ b +ℤ (x +ℤ y) → a +ℤ u ≡ b +ℤ x
+cancel-both a b u x y k =
+    eq-in (omega (arith, ap up k, ap dn k, sum-is a (u +ℤ y), sum-is b (x +ℤ y), sum-is u y, sum-is x y, sum-is a u, sum-is b x))
+
+by-difference : (w : ℕ) (a b x y : ℤ) → a +ℤ pos w *ℤ x ≡ b +ℤ pos w *ℤ y → a ≡ b +ℤ pos w *ℤ (y -ℤ x)
+by-difference w a b x y h = sym (cancel-out w b a (y -ℤ x) x (ap (λ (z : ℤ). b +ℤ pos w *ℤ z) (-ℤ-+ℤ-cancel y x) ∙ sym h))
+
+falls : (t s x y : ℤ) → t +ℤ x ≡ s +ℤ y → y ≤ℤ x → t ≤ℤ s
+falls t s x y e h = omega (ints, le-in, ap up e, ap dn e, sum-is t x, sum-is s y)
 
 -- ---- sums over states
 
@@ -95,9 +157,6 @@ module _ (v : ℕ → ℤ) where
   abbrev times : (ℕ → ℕ) → ℕ → ℤ
   times W s = pos (W s) *ℤ v s
 
-  more-here : (w x : ℕ) (z t : ℤ) → pos (w + x) *ℤ z +ℤ t ≡ pos w *ℤ z +ℤ t +ℤ pos x *ℤ z
-  more-here w x z t = rw (is z, is t) (simp ring (dif-eq _ _ _ _ (omega arith)))
-
   add-sum : (q x : ℕ) (W : ℕ → ℕ) (n p : ℕ) → p ≤ q → q < p + n
       → sumFrom p n (times (addTo q x W)) ≡ sumFrom p n (times W) +ℤ pos x *ℤ v q
   add-sum q x W zero p a b = absurd (omega arith)
@@ -114,12 +173,6 @@ module _ (v : ℕ → ℤ) where
           ap₂ (λ (m : ℕ) (z : ℤ). pos m *ℤ v p +ℤ z) (add-off q x W p (omega arith)) (ih l)
           ∙ sym (+ℤ-assoc (times W p) (sumFrom (suc p) n (times W)) (pos x *ℤ v q))
 
-  no-more : (x : ℕ) (t : ℤ) → t ≡ t +ℤ pos x *ℤ pos 0
-  no-more x t = rw (is t) (simp ring (dif-eq _ _ _ _ (omega arith)))
-
-  one-more : (x w : ℕ) (t z e : ℤ) → t +ℤ pos (x * w) *ℤ z +ℤ pos x *ℤ e ≡ t +ℤ pos x *ℤ (pos w *ℤ z +ℤ e)
-  one-more x w t z e = rw (is t, is z, is e) (simp ring (dif-eq _ _ _ _ (omega arith)))
-
   spread-sum : (x n p : ℕ) (ts : List Transition) (W : ℕ → ℕ) → AtNexts (λ q. p ≤ q) ts → AtNexts (λ q. q < p + n) ts
       → sumFrom p n (times (spread x ts W)) ≡ sumFrom p n (times W) +ℤ pos x *ℤ expected v ts
   unfolding spread
@@ -135,21 +188,16 @@ module _ (v : ℕ → ℤ) where
     abbrev total : ℕ → ℕ → ℤ
     total p n = sumFrom p n (times (weightsBefore taken p))
 
-    once : (z : ℤ) → pos 0 +ℤ pos 1 *ℤ z ≡ z
-    once z = rw (is z) (simp ring (dif-eq _ _ _ _ (omega arith)))
-
     total-start : 0 < S → total 0 S ≡ v 0
     unfolding weightsBefore
     total-start h =
         add-sum 0 1 (λ q. 0) S 0 (omega arith) (omega arith)
         ∙ rw (sum-zero v S 0) (once (v 0))
 
-    moved : (a b c : ℤ) → a +ℤ b +ℤ c ≡ c +ℤ a +ℤ b
-    moved a b c = rw (is a, is b, is c) (simp ring (dif-eq _ _ _ _ (omega arith)))
-
-    -- what the pass does at state p: its own term gives way to those of its transitions
+    -- what the pass does at state p: its own term is replaced by those of its transitions
     total-step : (p n : ℕ) → p + suc n ≡ S
-        → total (suc p) n +ℤ pos (weightsBefore taken p p) *ℤ v p ≡ total p (suc n) +ℤ pos (weightsBefore taken p p) *ℤ expected v (taken p .transitions)
+        → total (suc p) n +ℤ pos (weightsBefore taken p p) *ℤ v p
+        ≡ total p (suc n) +ℤ pos (weightsBefore taken p p) *ℤ expected v (taken p .transitions)
     unfolding weightsBefore
     total-step p n e =
         ap (λ (z : ℤ). z +ℤ pos (weightsBefore taken p p) *ℤ v p)
@@ -160,7 +208,7 @@ module _ (v : ℕ → ℤ) where
 
 -- ---- the cost-to-go of a state by those of its next states
 
-expected-same : (v u : ℕ → ℤ) (ts : List Transition) → AtNexts (λ q. v q ≡ u q) ts → expected v ts ≡ expected u ts
+pub expected-same : (v u : ℕ → ℤ) (ts : List Transition) → AtNexts (λ q. v q ≡ u q) ts → expected v ts ≡ expected u ts
 expected-same v u [] h = refl
 expected-same v u (t ∷ ts) h = ap₂ (λ (x y : ℤ). pos (t .weight) *ℤ x +ℤ y) (h .0) (expected-same v u ts (h .1))
 
@@ -169,7 +217,7 @@ expected-none v togo [] h = refl
 expected-none v togo (t ∷ ts) h = absurd (omega arith)
 
 module _ (D : ℕ) (togo : ℕ → ℕ) where
-  -- by the actions taken
+  -- the cost-to-go of state s by the actions taken
   abbrev goCost : (ℕ → Action) → ℕ → ℤ
   goCost taken s = costToGo D taken (togo s) s
 
@@ -190,28 +238,12 @@ module _ (D : ℕ) (togo : ℕ → ℕ) where
           (expected-same (costToGo D taken m) (goCost taken) (taken p .transitions)
           (every-imp (λ t e. one-on m (t .next) (omega arith)) (taken p .transitions) h))
 
-  -- ---- one state's cost-to-go moves
+  -- ---- a change of one state's cost-to-go
 
   module _ (S : ℕ) (taken : ℕ → Action) (step : (p : ℕ) → AtNexts (λ q. togo p ≡ suc (togo q)) (taken p .transitions))
       (later : (p : ℕ) → AtNexts (λ q. p < q) (taken p .transitions)) (inside : (p : ℕ) → AtNexts (λ q. q < S) (taken p .transitions)) where
     abbrev sumOf : (ℕ → ℤ) → ℕ → ℕ → ℤ
     sumOf v = total v taken S later inside
-
-    cancel-out : (w : ℕ) (t u o e : ℤ) → t +ℤ pos w *ℤ (o +ℤ e) ≡ u +ℤ pos w *ℤ e → t +ℤ pos w *ℤ o ≡ u
-    cancel-out w t u o e h = linear (pos w *ℤ o) (pos w *ℤ e) (ap (λ (z : ℤ). t +ℤ z) (sym apart) ∙ h)
-      where
-        apart : pos w *ℤ (o +ℤ e) ≡ pos w *ℤ o +ℤ pos w *ℤ e
-        apart = rw (is o, is e) (simp ring (dif-eq _ _ _ _ (omega arith)))
-
-        linear : (y z : ℤ) → t +ℤ (y +ℤ z) ≡ u +ℤ z → t +ℤ y ≡ u
-        linear y z k = eq-in (omega (arith, ap up k, ap dn k, sum-is t (y +ℤ z), sum-is y z, sum-is u z, sum-is t y))
-
-    cancel-both : (a b u x y : ℤ) → a +ℤ (u +ℤ y) ≡ b +ℤ (x +ℤ y) → a +ℤ u ≡ b +ℤ x
-    cancel-both a b u x y k =
-        eq-in (omega (arith, ap up k, ap dn k, sum-is a (u +ℤ y), sum-is b (x +ℤ y), sum-is u y, sum-is x y, sum-is a u, sum-is b x))
-
-    by-difference : (w : ℕ) (a b x y : ℤ) → a +ℤ pos w *ℤ x ≡ b +ℤ pos w *ℤ y → a ≡ b +ℤ pos w *ℤ (y -ℤ x)
-    by-difference w a b x y h = sym (cancel-out w b a (y -ℤ x) x (ap (λ (z : ℤ). b +ℤ pos w *ℤ z) (-ℤ-+ℤ-cancel y x) ∙ sym h))
 
     -- what the pass does at state p, where v is the cost-to-go by the action taken there
     settled : (v : ℕ → ℤ) (p n : ℕ) (own : ℤ) → p + suc n ≡ S → v p ≡ own +ℤ expected v (taken p .transitions)
@@ -250,7 +282,7 @@ module _ (D : ℕ) (togo : ℕ → ℕ) where
               to-go-is taken′ p (subst (λ (a : Action). AtNexts (λ q. togo p ≡ suc (togo q)) (a .transitions)) (sym same) (step p))
               ∙ ap (actionCost D (togo p) v′) same
 
-      -- a change of the cost-to-go of state r moves the cost-to-go of state 0 by the reach weight of r times as much
+      -- a change of the cost-to-go of state r changes that of state 0 by the reach weight of r times as much
       pub reach-moves : costToGo D taken′ (togo 0) 0 +ℤ pos (weightsBefore taken r r) *ℤ costToGo D taken (togo r) r
           ≡ costToGo D taken (togo 0) 0 +ℤ pos (weightsBefore taken r r) *ℤ costToGo D taken′ (togo r) r
       reach-moves =
@@ -298,9 +330,6 @@ module _ (D : ℕ) (togo : ℕ → ℕ) where
           go zero h = rw (expected-none power togo (taken p .transitions) h) (omega (ints, le-in))
           go (suc m) h =
               rw (expected-power m (taken p .transitions) h, pow-suc) (omega (ints, le-in, mul-le-mul-right (D ^ m) (small p)))
-
-      falls : (t s x y : ℤ) → t +ℤ x ≡ s +ℤ y → y ≤ℤ x → t ≤ℤ s
-      falls t s x y e h = omega (ints, le-in, ap up e, ap dn e, sum-is t x, sum-is s y)
 
       -- the sum over the states of weight × power never grows
       sum-le : 0 < S → (p n : ℕ) → p + n ≡ S → sumOf power p n ≤ℤ power 0
@@ -381,7 +410,8 @@ module _ (act : ℕ → ℕ → Action) where
   reached-on (suc k) p reach (b ∷ bs) = rw (add-suc, ← suc-add) (reached-on k (suc p) (onward act p b reach) bs)
 
   -- what is known to be reached after the first k bytes is reached
-  pub known-reached : (k p : ℕ) (reach : List ℕ) (bs : Policy) (q : ℕ) → In q (reachedFrom act p reach (take k bs)) → In q (reachedFrom act p reach bs)
+  pub known-reached : (k p : ℕ) (reach : List ℕ) (bs : Policy) (q : ℕ) → In q (reachedFrom act p reach (take k bs))
+      → In q (reachedFrom act p reach bs)
   known-reached k p reach bs q i =
       rw (reached-on k p reach bs) at (reached-mono act (p + k) (reachedFrom act p reach (take k bs)) (drop k bs) q i)
 
@@ -449,7 +479,7 @@ module _ (act : ℕ → ℕ → Action) where
 
       -- a state has a reach weight exactly if it is reached
       pub reached-weight : ((p c : ℕ) → AtNexts (λ q. p < q) (act p c .transitions)) → (r : ℕ) → r < S
-          → (0 < weightsBefore (λ q. act q (byteAt bs q)) r r) ↔ In r (reachedFrom act 0 (0 ∷ []) bs)
+          → (0 < reachWeight act bs r) ↔ In r (reachedFrom act 0 (0 ∷ []) bs)
       reached-weight later r l =
           (λ h. known-reached r 0 (0 ∷ []) bs r (w .0 h), λ i. w .1 (known (reached-late act later (0 + r) before (drop r bs) r (rw (← on) at i))))
         where
@@ -459,7 +489,7 @@ module _ (act : ℕ → ℕ → Action) where
           on : reachedFrom act (0 + r) before (drop r bs) ≡ reachedFrom act 0 (0 ∷ []) bs
           on = reached-on r 0 (0 ∷ []) bs
 
-          w : (0 < weightsBefore (λ q. act q (byteAt bs q)) r r) ↔ In r before
+          w : (0 < reachWeight act bs r) ↔ In r before
           w = known-weight r (omega arith) r (omega arith)
 
           known : In r before ⊎ (0 + r < r) → In r before

@@ -1,9 +1,9 @@
+-- The mark of state 0 is the only one that is true.
+-- Assumes nothing.
 use Rattle.policy.proofs.Marking.{one-marked}
 use borrow.Author.Needs.{needs}
 use Rattle.policy.proofs.first_marks.Statement.{statement}
 use Rattle.policy.proofs.first_marks.Tie as tie
-use Rattle.policy.proofs.first_marks.Reads as reads
-use Rattle.policy.proofs.first_marks.Lts as lts
 
 array-write-marks : tie.Need-array-write-marks
 array-write-marks c = search needs

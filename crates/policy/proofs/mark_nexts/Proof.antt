@@ -1,23 +1,20 @@
 -- The next states of the transitions from i on are still to be marked.
 -- Assumes nothing.
-use mathlib.Core.Path.{_≡_, refl, ap, ap₂, _∙_}
+use mathlib.Core.Path.{_≡_, ap, ap₂, _∙_}
+use mathlib.Core.Bool.{true}
 use Prim.Native.Nat.{ℕ, _+_, _-_, _≤_, _<_}
 use native.Mathlib.Omega.{arith}
 use lib.IntN.{natAbs}
-use lib.ListN.{getD}
+use lib.ListN.{getD, set}
 use Rattle.model.specs.Model.{Words, lineCount, firstState, stage, left, branches, actionLine}
 use Rattle.questions.specs.Sizes.{Sized}
 use Rattle.accepted.specs.Facts.{accepted}
 use Rattle.book.proofs.Columns.{left-is, branches-are}
 use Rattle.index.proofs.Lines.{lines-inside}
-use Rattle.policy.proofs.Marking.{ToMark, all-to-mark, next-low, next-marked, all-marked}
+use Rattle.policy.proofs.Marking.{ToMark, all-to-mark, mark-next, all-marked}
 use borrow.Author.Needs.{needs}
 use Rattle.policy.proofs.mark_nexts.Statement.{statement}
 use Rattle.policy.proofs.mark_nexts.Tie as tie
-use Rattle.policy.proofs.mark_nexts.Reads as reads
-use Rattle.policy.proofs.mark_nexts.Lts as lts
-use Rattle.book.proofs.size_at.Reads as size-at-reads
-use Rattle.index.proofs.action_line.Reads as action-line-reads
 
 abbrev Inv-loop : tie.InvT-loop
 Inv-loop b x p c marks₀ at r base i₀ marks i = (i ≤ r) × ToMark b p c r i marks₀ marks
@@ -80,7 +77,8 @@ loop-holds : tie.Need-loop-holds Inv-loop μ-loop
 loop-holds c =
     let s = c .before .before .before .before .before .before in (
       omega arith,
-      all-to-mark (ws s) (s .args .p) (s .args .c) (c .before .size-at .result) (s .pre .0) (s .pre .3) (s .pre .4) (r-is (c .before)) (s .args .marks .now),
+      all-to-mark (ws s) (s .args .p) (s .args .c) (c .before .size-at .result) (s .pre .0) (s .pre .3) (s .pre .4) (r-is (c .before))
+          (s .args .marks .now),
     )
 
 add-i : tie.Need-add-i Inv-loop μ-loop
@@ -108,6 +106,9 @@ module _ (c : tie.After-size-at2 Inv-loop μ-loop) where
   abbrev s : tie.Start Inv-loop μ-loop
   s = l .before .before .before .before .before .before .before
 
+  abbrev r : ℕ
+  r = l .before .before .size-at .result
+
   abbrev q : ℕ
   q = getD (s .args .x .now) (64 + s .args .p) 0 + c .size-at2 .result
 
@@ -119,25 +120,21 @@ module _ (c : tie.After-size-at2 Inv-loop μ-loop) where
       ∙ ap natAbs (left-is (ws s) (s .args .z) (s .pre .1) (actionLine (ws s) (s .args .p) (s .args .c) + 1 + l .loop .i) _
       (omega (arith, l .before .before .before .action-line .ensures))))
 
-  low : q < 64
-  low = next-low (ws s) (s .args .p) (s .args .c) (l .before .before .size-at .result) (l .loop .i) (s .args .marks .now) (l .loop .marks)
-      (l .loop .inv .1) q (omega arith) q-is
+  turn : (q < 64) × ToMark (ws s) (s .args .p) (s .args .c) r (l .loop .i + 1) (s .args .marks .now) (set (l .loop .marks) q true)
+  turn =
+      mark-next (ws s) (s .args .p) (s .args .c) r (l .loop .i) (s .args .marks .now) (l .loop .marks) (l .loop .inv .1) q (omega arith) q-is
 
 add-q : tie.Need-add-q Inv-loop μ-loop
-add-q c = omega (arith, low c)
+add-q c = omega (arith, turn c)
 
 element-write-marks : tie.Need-element-write-marks Inv-loop μ-loop
-element-write-marks c = low c
+element-write-marks c = turn c .0
 
 loop-less : tie.Need-loop-less Inv-loop μ-loop
 loop-less c = search needs
 
 loop-again : tie.Need-loop-again Inv-loop μ-loop
-loop-again c = (
-  omega arith,
-  next-marked (ws (s c)) (s c .args .p) (s c .args .c) (l c .before .before .size-at .result) (l c .loop .i) (s c .args .marks .now) (l c .loop .marks)
-      (l c .loop .inv .1) (q c) (omega arith) (q-is c),
-)
+loop-again c = (omega arith, turn c .1)
 
 returns : tie.Need-returns Inv-loop μ-loop
 returns c =

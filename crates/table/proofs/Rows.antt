@@ -1,0 +1,84 @@
+-- The rows of the table, filled one entry at a time and one state at a time.
+-- Assumes nothing.
+use mathlib.Core.Path.{_≡_, refl, sym, ap, _∙_, subst}
+use mathlib.Core.Logic.{_⊎_, inl, inr}
+use mathlib.Core.List.{List}
+use Prim.Native.Nat.{ℕ, suc, _+_, _*_, _≤_, _<_}
+use native.Mathlib.Nat.{eq-or-lt-of-le}
+use native.Mathlib.Omega.{arith}
+use lib.IntN.{ℤ, pos}
+use lib.ListN.{length, getD, set, length-set}
+use lib.Seq.{getD-set-same, getD-set-other}
+use Rattle.model.specs.Lists.{upFrom}
+use Rattle.model.specs.Model.{Words, scale, stateCount, togo, actionCount, action, options}
+use Rattle.model.specs.Questions.{bookNumber}
+use Rattle.model.specs.Recursion.{actionCost, bestOf, through, leastToGo}
+use Rattle.laws.specs.Members.{In, in-every, upFrom-in}
+use Rattle.accepted.specs.Facts.{accepted}
+use Rattle.masks.specs.Masks.{free}
+use Rattle.masks.proofs.Bars.{free-all}
+use Rattle.costs.specs.Terms.{valueAt}
+use Rattle.costs.proofs.ToGo.{through-step, by-array, Holds, holds-more}
+use Rattle.table.specs.Table.{rowOf, FilledTo, Filled, TableFrom}
+use Rattle.table.proofs.Better.{best-same, best-below}
+
+pub filled-none : (ws : Words) (p : ℕ) (v q : List ℤ) → length q ≡ 512 → FilledTo ws p 0 v q q
+filled-none ws p v q l = record { long = l; row = λ c h. absurd (omega arith); other = λ s c n h. refl }
+
+-- one entry more
+pub filled-more : (ws : Words) (p n : ℕ) (v q r : List ℤ) (y : ℤ) → p < 64 → n < 8 → FilledTo ws p n v q r
+    → y ≡ actionCost (scale ws) (togo ws p) (valueAt v) (action ws p n) → FilledTo ws p (n + 1) v q (set r (8 * p + n) y)
+filled-more ws p n v q r y hp hn f e =
+    record {
+      long = length-set r (8 * p + n) y ∙ f .long;
+      row = λ c h. row c (eq-or-lt-of-le (le c h));
+      other = λ s c d h. getD-set-other r (8 * p + n) (8 * s + c) y (pos 0) (λ k. absurd (d (same s c h k))) ∙ f .other s c d h;
+    }
+  where
+    le : (c : ℕ) → c < n + 1 → c ≤ n
+    le c h = omega arith
+
+    same : (s c : ℕ) → c < 8 → 8 * s + c ≡ 8 * p + n → s ≡ p
+    same s c h k = omega arith
+
+    row : (c : ℕ) → (c ≡ n) ⊎ (c < n) → rowOf (set r (8 * p + n) y) p c ≡ actionCost (scale ws) (togo ws p) (valueAt v) (action ws p c)
+    row c (inl k) =
+        ap (rowOf (set r (8 * p + n) y) p) k ∙ getD-set-same r (8 * p + n) y (pos 0) (omega (arith, f .long)) ∙ e
+        ∙ ap (λ (d : ℕ). actionCost (scale ws) (togo ws p) (valueAt v) (action ws p d)) (sym k)
+    row c (inr l) = getD-set-other r (8 * p + n) (8 * p + c) y (pos 0) (λ k. absurd (omega arith)) ∙ f .row c l
+
+-- ---- one state more
+
+module _ (ws : Words) (ok : bookNumber ws ≡ 0) (p : ℕ) (hp : p < stateCount ws) (q v r : List ℤ) (t : TableFrom ws (p + 1) q v)
+    (f : Filled ws p v q r) where
+  abbrev least : ℕ → ℤ
+  least s = leastToGo (scale ws) (action ws) (options ws) (togo ws s) s
+
+  -- the row has the costs of the state's actions
+  row-is : (c : ℕ) → c < actionCount ws p → rowOf r p c ≡ through (scale ws) (action ws) (options ws) (togo ws p) p c
+  row-is c h = f .row c h ∙ by-array ws ok least p c v (λ s a b. t .least-is s a b) ∙ sym (through-step ws ok p c)
+
+  -- and its best entry is the least cost-to-go
+  pub row-least : rowOf r p (bestOf (rowOf r p) (free 0 0 (actionCount ws p))) ≡ least p
+  unfolding options
+  row-least =
+      let n = actionCount ws p in
+      let e : bestOf (rowOf r p) (free 0 0 n) ≡ bestOf (through (scale ws) (action ws) (options ws) (togo ws p) p) (upFrom 0 n)
+      = ap (bestOf (rowOf r p)) (free-all 0 n)
+      ∙ best-same (rowOf r p) (through (scale ws) (action ws) (options ws) (togo ws p) p) (upFrom 0 n)
+      (in-every (λ c. rowOf r p c ≡ through (scale ws) (action ws) (options ws) (togo ws p) p c) (upFrom 0 n) (λ c i. row-is c (omega (arith, upFrom-in 0 n i)))) in
+      ap (rowOf r p) e ∙ row-is (bestOf (through (scale ws) (action ws) (options ws) (togo ws p) p) (upFrom 0 n)) (best-below (through (scale ws) (action ws) (options ws) (togo ws p) p) n (accepted ws ok .counts-low p hp))
+
+  pub table-more : (y : ℤ) → y ≡ least p → TableFrom ws p r (set v p y)
+  table-more y e =
+      record {
+        rows = f .long;
+        long = length-set v p y ∙ t .long;
+        through-is = λ s c a b h. row s c (eq-or-lt-of-le a) b h;
+        least-is = holds-more ws ok least p v y (omega (arith, t .long, accepted ws ok .sizes .s-high)) e (λ s a b. t .least-is s a b);
+      }
+    where
+      row : (s c : ℕ) → (p ≡ s) ⊎ (p < s) → s < stateCount ws → c < actionCount ws s → rowOf r s c ≡ through (scale ws) (action ws) (options ws) (togo ws s) s c
+      row s c (inl k) b h = subst (λ (n : ℕ). c < actionCount ws n → rowOf r n c ≡ through (scale ws) (action ws) (options ws) (togo ws n) n c) k (row-is c) h
+      row s c (inr k) b h =
+          f .other s c (λ z. omega arith) (omega (arith, h, accepted ws ok .counts-high s b)) ∙ t .through-is s c (omega arith) b h

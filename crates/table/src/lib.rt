@@ -1,0 +1,116 @@
+// The least cost-to-go of every state and the cost of every action: equation (5), one pass over the lines from the last state to the first.
+use book::Sizes;
+ghost use mathlib.Core.Path.{_≡_};
+ghost use mathlib.Core.Bool.{cond};
+ghost use Prim.Native.Nat.{_+_, _*_, _<_, _≤_};
+ghost use lib.IntN.{pos};
+ghost use lib.Signed.{ltZ};
+ghost use lib.ListN.{length, getD};
+ghost use Rattle.model.specs.Model.{stateCount};
+ghost use Rattle.model.specs.Questions.{bookNumber};
+ghost use Rattle.model.specs.Recursion.{bestOf};
+ghost use Rattle.book.specs.Read.{SizesAre};
+ghost use Rattle.index.specs.Index.{IndexOf};
+ghost use Rattle.masks.specs.Masks.{has, free};
+ghost use Rattle.costs.specs.Terms.{Bounded};
+ghost use Rattle.table.specs.Table.{Chosen, better, rowOf, Filled, TableOf};
+
+// At 8 × p + c the cost of action c of state p with best actions ever after; at p the least cost-to-go of state p.
+pub struct Table {
+    pub q: [i64; 512],
+    pub v: [i64; 64],
+}
+
+// Is entry i below entry k?
+fn below(q: &[i64; 512], i: usize, k: usize) -> bool
+    requires { ⌜ (i < 512) × (k < 512) ⌝ }
+    ensures { λ r. ⌜ r ≡ ltZ (getD (now (q .entry)) i (pos 0)) (getD (now (q .entry)) k (pos 0)) ⌝ }
+{
+    q[i] < q[k]
+}
+
+// The better of the best action so far and action c of state p, unless c is in the set `mask`. The lower number wins among equals.
+fn best_of_two(q: &[i64; 512], p: usize, best: usize, c: usize, mask: u8) -> usize
+    requires { ⌜ (p < 64) × (c < 8) × Chosen best ⌝ }
+    ensures { λ r. ⌜ r ≡ cond (has mask c) best (better (rowOf (now (q .entry)) p) best c) ⌝ }
+{
+    if masks::barred(mask, c as u8) {
+        return best;
+    }
+    if best == 255 {
+        return c;
+    }
+    if below(q, 8 * p + c, 8 * p + best) {
+        return c;
+    }
+    best
+}
+
+// The first best action of state p among the first n that are not in the set `mask`; 255 where there is none.
+pub fn best_action(q: &[i64; 512], p: usize, n: usize, mask: u8) -> usize
+    requires { ⌜ (p < 64) × (n ≤ 8) ⌝ }
+    ensures { λ r. ⌜ r ≡ bestOf (rowOf (now (q .entry)) p) (free mask 0 n) ⌝ }
+{
+    let mut best: usize = 255;
+    let mut c: usize = 0;
+    while c < n {
+        best = best_of_two(q, p, best, c, mask);
+        c = c + 1;
+    }
+    best
+}
+
+// The costs of the actions of state p, where v has the least costs-to-go of the states after it.
+fn fill_row(b: &[i32], z: Sizes, x: &[usize; 192], p: usize, q: &mut [i64; 512], v: &[i64; 64])
+    requires { ⌜ (bookNumber (now b) ≡ 0) × SizesAre (now b) z × IndexOf (now b) (now x) × (p < stateCount (now b)) × Bounded (now b) p (now v) × (length (now q) ≡ 512) ⌝ }
+    ensures { λ r. ⌜ Filled (now (b .entry)) p (now (v .entry)) (now (q .entry)) (now (q .exit)) ⌝ }
+{
+    let n = index::count(b, z, p);
+    let mut j = x[p];
+    let mut c: usize = 0;
+    while c < n {
+        let y = costs::action_cost(b, z, x, p, c, j, v);
+        q[8 * p + c] = y;
+        j = index::line_after(b, z, j);
+        c = c + 1;
+    }
+}
+
+fn zero_rows() -> [i64; 512]
+    ensures { λ r. ⌜ length r ≡ 512 ⌝ }
+{
+    [0; 512]
+}
+
+fn zeros() -> [i64; 64]
+    ensures { λ r. ⌜ length r ≡ 64 ⌝ }
+{
+    [0; 64]
+}
+
+// The entry of the best action of state p.
+fn least_of_row(q: &[i64; 512], p: usize, n: usize) -> i64
+    requires { ⌜ (p < 64) × (1 ≤ n) × (n ≤ 8) ⌝ }
+    ensures { λ r. ⌜ r ≡ rowOf (now (q .entry)) p (bestOf (rowOf (now (q .entry)) p) (free 0 0 n)) ⌝ }
+{
+    let best = best_action(q, p, n, 0);
+    q[8 * p + best]
+}
+
+// The table of a checked book.
+pub fn make_table(b: &[i32], z: Sizes, x: &[usize; 192]) -> Table
+    requires { ⌜ (bookNumber (now b) ≡ 0) × SizesAre (now b) z × IndexOf (now b) (now x) ⌝ }
+    ensures { λ r. ⌜ TableOf (now (b .entry)) (r .q) (r .v) ⌝ }
+{
+    let mut q = zero_rows();
+    let mut v = zeros();
+    let mut p = z.s;
+    while 0 < p {
+        p = p - 1;
+        fill_row(b, z, x, p, &mut q, &v);
+        let n = index::count(b, z, p);
+        let y = least_of_row(&q, p, n);
+        v[p] = y;
+    }
+    Table { q: q, v: v }
+}
