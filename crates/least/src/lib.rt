@@ -1,0 +1,24 @@
+// The least cost of a book: the questions 1 to 13, and the cost of its first policy over D^H.
+ghost use mathlib.Core.Path.{_≡_};
+ghost use Rattle.model.specs.Questions.{bookNumber};
+ghost use Rattle.model.specs.Calls.{leastCost};
+
+// The number of the first question that is answered no, or 0; and the least cost, 0 where the book is refused.
+pub struct LeastCost {
+    pub no: u32,
+    pub cost: i64,
+}
+
+// The least cost of a book, for any slice.
+pub fn least(b: &[i32]) -> LeastCost
+    ensures { λ r. ⌜ (r .no ≡ bookNumber (now (b .entry))) × (r .cost ≡ leastCost (now (b .entry))) ⌝ }
+{
+    let no = check_book::check(b);
+    if no != 0 {
+        return LeastCost { no: no, cost: 0 };
+    }
+    let z = book::read_sizes(b);
+    let x = index::index(b, z);
+    let t = table::make_table(b, z, &x);
+    LeastCost { no: 0, cost: t.v[0] }
+}
