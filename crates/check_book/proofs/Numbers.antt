@@ -2,17 +2,13 @@
 -- Assumes nothing.
 use mathlib.Core.Path.{_≡_, refl, ap, _∙_}
 use mathlib.Core.Bool.{Bool, true, false}
-use Prim.Native.Nat.{ℕ, zero, suc}
+use Prim.Native.Nat.{ℕ}
 use native.Mathlib.Omega.{arith}
 use lib.ListN.{drop}
 use Rattle.model.specs.Model.{Words}
 use Rattle.model.specs.Questions.{firstNo, andThen, countsAllowed, everyAction, linesAllowed, costAllowed, nextsAllowed, weightsAllowed, costsBounded, sizeQuestions, actionQuestions, bookNumber}
-use Rattle.questions.specs.FirstNo.{passes, fails, none, after}
+use Rattle.questions.specs.FirstNo.{passes, fails, none, after, then-no}
 use Rattle.actions.specs.Action.{code}
-
-and-then-no : (n m : ℕ) → (n ≡ 0 → ⊥) → andThen n m ≡ n
-and-then-no zero m h = absurd (h refl)
-and-then-no (suc n) m h = refl
 
 module _ (ws : Words) where
   by-parts : bookNumber ws ≡ andThen (firstNo sizeQuestions ws) (firstNo actionQuestions ws)
@@ -21,7 +17,7 @@ module _ (ws : Words) where
 
   -- one of 1 to 7 is answered no
   pub of-sizes : (firstNo sizeQuestions ws ≡ 0 → ⊥) → bookNumber ws ≡ firstNo sizeQuestions ws
-  of-sizes h = by-parts ∙ and-then-no (firstNo sizeQuestions ws) (firstNo actionQuestions ws) h
+  of-sizes h = by-parts ∙ then-no (firstNo sizeQuestions ws) (firstNo actionQuestions ws) h
 
   module _ (sizes : firstNo sizeQuestions ws ≡ 0) where
     past-sizes : bookNumber ws ≡ firstNo actionQuestions ws
@@ -51,7 +47,7 @@ module _ (ws : Words) where
       past-counts = past-sizes ∙ passes ws _ _ counts ∙ walked
 
       pub of-walk : (number ≡ 0 → ⊥) → bookNumber ws ≡ number
-      of-walk h = past-counts ∙ and-then-no number (firstNo (drop 5 actionQuestions) ws) h
+      of-walk h = past-counts ∙ then-no number (firstNo (drop 5 actionQuestions) ws) h
 
       module _ (lines : number ≡ 0) where
         past-walk : bookNumber ws ≡ firstNo (drop 5 actionQuestions) ws

@@ -3,18 +3,15 @@
 use mathlib.Core.Path.{_≡_, refl, sym, ap, ap₂, _∙_, subst}
 use mathlib.Core.List.{List, [], _∷_, map}
 use Prim.Native.Nat.{ℕ, zero, suc, _+_, _*_, _-_, _^_, _≤_, _<_}
-use native.Mathlib.Nat.{zero-add, add-zero, add-suc, suc-add, pow-suc, le-trans, mul-le-mul-left, mul-le-mul-right, mul-le-mul}
-use native.Mathlib.Numerals.{add-one}
+use native.Mathlib.Nat.{zero-add, add-zero, add-suc, suc-add, pow-suc, le-trans, mul-le-mul-left, mul-le-mul-right}
 use native.Mathlib.Omega.{arith}
-use lib.IntN.{ℤ, pos, natAbs}
-use lib.ListN.{length}
+use lib.IntN.{ℤ, natAbs}
 use Rattle.model.specs.Lists.{upFrom}
-use Rattle.model.specs.Model.{Words, word, scale, horizon, lineCount, firstState, stateCount, stage, togo, actionCount, left, right, branches, lineAfter, actionLine}
+use Rattle.model.specs.Model.{Words, word, scale, lineCount, firstState, stateCount, stage, togo, left, right, branches}
 use Rattle.model.specs.Model.{Transition, Action, transitionAt, readAction, action}
 use Rattle.model.specs.Questions.{largestCost, bookNumber}
 use Rattle.laws.specs.Members.{Every, AtNexts, every-both}
 use Rattle.laws.specs.Paths.{weightsOf}
-use Rattle.laws.specs.First.{Shape}
 use Rattle.accepted.specs.Facts.{accepted}
 use Rattle.accepted.specs.Shape.{shape, action-is, weights-bound, cost-bound}
 use Rattle.accepted.specs.Demands.{most-fits}

@@ -1,8 +1,8 @@
 -- Sums of weighted costs: what fits, and how a loop takes them from the front.
 -- Assumes nothing.
-use mathlib.Core.Path.{_≡_, refl, sym, ap, _∙_}
-use mathlib.Core.List.{List, [], _∷_}
-use Prim.Native.Nat.{ℕ, zero, suc, _+_, _*_, _-_, _^_, _≤_, _<_}
+use mathlib.Core.Path.{_≡_, sym, _∙_}
+use mathlib.Core.List.{[], _∷_}
+use Prim.Native.Nat.{ℕ, suc, _+_, _*_, _-_, _^_, _≤_, _<_}
 use native.Mathlib.Numerals.{add-one}
 use native.Mathlib.Omega.{arith}
 use lib.Dec.{lit<}
@@ -11,11 +11,10 @@ use mir.Syntax.{w64}
 use mir.Val.{SFits, toZ, ofZ}
 use mir.Facts.{toZ-ofZ}
 use lib.Signed.{mag}
-use Rattle.model.specs.Model.{Words, Transition}
-use Rattle.model.specs.Recursion.{expected}
+use Rattle.model.specs.Model.{Words}
 use Rattle.laws.specs.Int.{abs-add, abs-mul}
 use Rattle.book.proofs.Words.{fits64}
-use Rattle.costs.specs.Terms.{term, terms, absExpected}
+use Rattle.costs.specs.Terms.{term, terms}
 
 pub read64 : (z : ℤ) → mag z < 2 ^ 63 → toZ w64 (ofZ w64 z) ≡ z
 read64 z h = toZ-ofZ (record { sfits = h })

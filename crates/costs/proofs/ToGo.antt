@@ -5,18 +5,18 @@ use mathlib.Core.List.{List, [], _∷_}
 use Prim.Native.Nat.{ℕ, zero, suc, _+_, _*_, _^_, _≤_, _<_}
 use native.Mathlib.Nat.{pow-zero}
 use native.Mathlib.Omega.{arith}
-use lib.IntN.{ℤ, pos, natAbs, _+ℤ_, _*ℤ_, +ℤ-idr}
-use lib.ListN.{length, getD, set, length-set}
+use lib.IntN.{ℤ, pos, _+ℤ_, _*ℤ_}
+use lib.ListN.{length, set}
 use lib.Seq.{getD-set-same, getD-set-other}
 use mathlib.Core.Logic.{_⊎_, inl, inr}
 use native.Mathlib.Nat.{eq-or-lt-of-le}
-use Rattle.model.specs.Model.{Words, scale, horizon, stateCount, togo, Transition, Action, action, options}
+use Rattle.model.specs.Model.{Words, scale, stateCount, togo, Transition, Action, action, options}
 use Rattle.model.specs.Questions.{largestCost, bookNumber}
 use Rattle.model.specs.Policy.{Policy}
 use Rattle.model.specs.Path.{byteAt, taken}
-use Rattle.model.specs.Recursion.{expected, actionCost, costToGo, bestOf, through, leastToGo}
+use Rattle.model.specs.Recursion.{expected, actionCost, costToGo, through, leastToGo}
 use Rattle.laws.specs.Int.{is, ring, dif-eq}
-use Rattle.laws.specs.Members.{Every, AtNexts, every-imp, every-both}
+use Rattle.laws.specs.Members.{AtNexts, every-imp, every-both}
 use Rattle.laws.specs.Bounds.{to-go-bound, least-bound}
 use Rattle.accepted.specs.Shape.{shape, cost-bound, weights-bound}
 use Rattle.costs.specs.Terms.{valueAt, most, Bounded}

@@ -1,12 +1,13 @@
 -- Lines of an accepted book lie within its columns.
 -- Assumes nothing.
-use mathlib.Core.Path.{_≡_, refl, sym, ap, _∙_}
-use Prim.Native.Nat.{ℕ, suc, _+_, _≤_, _<_}
+use mathlib.Core.Path.{_≡_, refl}
+use Prim.Native.Nat.{ℕ, _+_, _≤_, _<_}
 use native.Mathlib.Numerals.{add-one}
 use native.Mathlib.Omega.{arith}
 use Rattle.model.specs.Model.{Words, lineCount, stateCount, stateLine, actionCount, branches, lineAfter, skip, actionLine}
 use Rattle.model.specs.Questions.{bookNumber}
 use Rattle.accepted.specs.Facts.{accepted}
+use Rattle.book.specs.Read.{Headed}
 
 module _ (ws : Words) (ok : bookNumber ws ≡ 0) (p : ℕ) (s : p < stateCount ws) where
   -- the lines of action c
@@ -28,3 +29,7 @@ line-next ws p c = rw add-one
 pub state-next : (ws : Words) (p : ℕ) → stateLine ws (p + 1) ≡ actionLine ws p (actionCount ws p)
 unfolding actionLine stateLine
 state-next ws p = rw add-one
+
+-- an accepted book has its sizes and its state counts
+pub headed : (ws : Words) → bookNumber ws ≡ 0 → Headed ws
+headed ws ok = let s = accepted ws ok .sizes in record { h-high = s .h-high; long = omega (arith, s .exact) }

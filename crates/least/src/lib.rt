@@ -20,5 +20,8 @@ pub fn least(b: &[i32]) -> LeastCost
     let z = book::read_sizes(b);
     let x = index::index(b, z);
     let t = table::make_table(b, z, &x);
-    LeastCost { no: 0, cost: t.v[0] }
+    LeastCost {
+        no: 0,
+        cost: t.v[0],
+    }
 }

@@ -6,6 +6,7 @@ use mathlib.Core.List.{List, [], _∷_, _++_}
 use Prim.Native.Nat.{ℕ, zero, suc, _+_, _<_}
 use native.Mathlib.Omega.{arith}
 use Rattle.model.specs.Questions.{Question, firstNo, andThen}
+use Rattle.model.specs.Calls.{ifAccepted}
 
 -- what goes with a "yes" and with a "no"
 abbrev pub answered : Bool → ℕ → ℕ → ℕ
@@ -58,3 +59,19 @@ module _ {A : Type 0} (x : A) where
       go : (b : Bool) → q .asks x ≡ b → firstNo (qs ++ rs) x ≡ andThen (firstNo qs x) (firstNo rs x) → firstNo (q ∷ (qs ++ rs)) x ≡ andThen (firstNo (q ∷ qs) x) (firstNo rs x)
       go true a ih = passes q (qs ++ rs) a ∙ ih ∙ ap (λ (n : ℕ). andThen n (firstNo rs x)) (sym (passes q qs a))
       go false a ih = fails q (qs ++ rs) a ∙ big (q .number) (h .0) ∙ ap (λ (n : ℕ). andThen n (firstNo rs x)) (sym (fails q qs a))
+
+-- ---- runs of questions, and what goes with their number
+
+pub then-no : (n m : ℕ) → (n ≡ 0 → ⊥) → andThen n m ≡ n
+then-no zero m h = absurd (h refl)
+then-no (suc n) m h = refl
+
+pub then-yes : (n m : ℕ) → n ≡ 0 → andThen n m ≡ m
+then-yes n m e = rw e
+
+pub refused : {A : Type 0} (n : ℕ) (a b : A) → (n ≡ 0 → ⊥) → ifAccepted n a b ≡ b
+refused zero a b h = absurd (h refl)
+refused (suc n) a b h = refl
+
+pub accepted : {A : Type 0} (n : ℕ) (a b : A) → n ≡ 0 → ifAccepted n a b ≡ a
+accepted n a b e = rw e

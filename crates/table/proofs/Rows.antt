@@ -3,22 +3,22 @@
 use mathlib.Core.Path.{_≡_, refl, sym, ap, _∙_, subst}
 use mathlib.Core.Logic.{_⊎_, inl, inr}
 use mathlib.Core.List.{List}
-use Prim.Native.Nat.{ℕ, suc, _+_, _*_, _≤_, _<_}
+use Prim.Native.Nat.{ℕ, _+_, _*_, _≤_, _<_}
 use native.Mathlib.Nat.{eq-or-lt-of-le}
 use native.Mathlib.Omega.{arith}
 use lib.IntN.{ℤ, pos}
-use lib.ListN.{length, getD, set, length-set}
+use lib.ListN.{length, set, length-set}
 use lib.Seq.{getD-set-same, getD-set-other}
 use Rattle.model.specs.Lists.{upFrom}
 use Rattle.model.specs.Model.{Words, scale, stateCount, togo, actionCount, action, options}
 use Rattle.model.specs.Questions.{bookNumber}
 use Rattle.model.specs.Recursion.{actionCost, bestOf, through, leastToGo}
-use Rattle.laws.specs.Members.{In, in-every, upFrom-in}
+use Rattle.laws.specs.Members.{in-every, upFrom-in}
 use Rattle.accepted.specs.Facts.{accepted}
 use Rattle.masks.specs.Masks.{free}
 use Rattle.masks.proofs.Bars.{free-all}
 use Rattle.costs.specs.Terms.{valueAt}
-use Rattle.costs.proofs.ToGo.{through-step, by-array, Holds, holds-more}
+use Rattle.costs.proofs.ToGo.{through-step, by-array, holds-more}
 use Rattle.table.specs.Table.{rowOf, FilledTo, Filled, TableFrom}
 use Rattle.table.proofs.Better.{best-same, best-below}
 

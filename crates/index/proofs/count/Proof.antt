@@ -3,7 +3,6 @@
 use native.Mathlib.Omega.{arith}
 use Rattle.accepted.specs.Facts.{accepted}
 use Rattle.book.proofs.Columns.{count-is}
-use borrow.Author.Needs.{needs}
 use Rattle.index.proofs.count.Statement.{statement}
 use Rattle.index.proofs.count.Tie as tie
 

@@ -1,33 +1,58 @@
+-- The first entry of the table is equation (5), which is the cost of the first policy.
+-- Assumes nothing.
 use borrow.Author.Needs.{needs}
+use mathlib.Core.Path.{_≡_, sym, ap, _∙_}
+use native.Mathlib.Omega.{arith}
+use lib.IntN.{pos}
+use lib.ListN.{getD}
+use Rattle.model.specs.Model.{scale, action, options}
+use Rattle.model.specs.Recursion.{leastToGo, leastCostToGo}
+use Rattle.model.specs.Questions.{bookNumber}
+use Rattle.model.specs.Calls.{leastCost}
+use Rattle.questions.specs.FirstNo.{refused}
+use Rattle.accepted.specs.Shape.{shape, togo-start}
+use Rattle.accepted.specs.Demands.{least-call}
+use Rattle.index.proofs.Lines.{headed}
+use Rattle.costs.proofs.Sums.{read64}
 use Rattle.least.proofs.least.Statement.{statement}
 use Rattle.least.proofs.least.Tie as tie
-use Rattle.least.proofs.least.Reads as reads
-use Rattle.least.proofs.least.Lts as lts
-use Rattle.book.proofs.read_sizes.Reads as read-sizes-reads
-use Rattle.check_book.proofs.check.Reads as check-reads
-use Rattle.index.proofs.index.Reads as index-reads
-use Rattle.table.proofs.make_table.Reads as make-table-reads
 
 check-requires : tie.Need-check-requires
 check-requires c κs = search needs
 
+good : (c : tie.Else1) → bookNumber (c .before .before .args .b .now) ≡ 0
+good c = sym (c .before .check .ensures) ∙ c .if1 .left
+
 returns : tie.Need-returns
-returns c = search needs
+unfolding leastCost
+returns c =
+    let e = c .before .check .ensures in
+    (e, sym (refused _ _ _ (λ z. c .if1 .taken (e ∙ z))))
 
 read-sizes-requires : tie.Need-read-sizes-requires
-read-sizes-requires c κs = search needs
+read-sizes-requires c κs = headed _ (good c)
 
 index-requires : tie.Need-index-requires
-index-requires c κs = search needs
+index-requires c κs = (good (c .before), c .read-sizes .ensures)
 
 make-table-requires : tie.Need-make-table-requires
-make-table-requires c κs = search needs
+make-table-requires c κs = (good (c .before .before .before), c .before .before .read-sizes .ensures, c .before .index .ensures)
 
 element-copy-out-t12 : tie.Need-element-copy-out-t12
 element-copy-out-t12 c = search needs
 
 returns-2 : tie.Need-returns-2
-returns-2 c = search needs
+unfolding leastCostToGo
+returns-2 c =
+    let t = c .before .make-table in
+    let ok = good (c .before .before .before .before .before) in
+    let ws = c .before .before .before .before .before .before .before .args .b .now in (
+      sym ok,
+      read64 (getD (t .result .v) 0 (pos 0)) (c .t12 .given)
+          ∙ t .ensures .least-is 0 (omega arith) (shape ws ok .some-state)
+          ∙ ap (λ m. leastToGo (scale ws) (action ws) (options ws) m 0) (togo-start ws ok)
+          ∙ sym (least-call ws ok),
+    )
 
 pub least-spec : {M : Type 1} → statement M
 least-spec =
