@@ -1,1 +1,2 @@
 pub mod Bars
+pub mod Free

@@ -1,9 +1,7 @@
 // Sets of up to eight action numbers as the bits of a byte.
 ghost use mathlib.Core.Path.{_≡_};
-ghost use mathlib.Core.Bool.{_||_};
-ghost use Prim.Native.Nat.{ℕ, _<_};
-ghost use lib.Dec.{eqb};
-ghost use Rattle.masks.specs.Masks.{has};
+ghost use Prim.Native.Nat.{_<_};
+ghost use Rattle.masks.specs.Masks.{has, with};
 
 // Is action c in the set?
 pub fn barred(mask: u8, c: u8) -> bool
@@ -16,7 +14,7 @@ pub fn barred(mask: u8, c: u8) -> bool
 // The set with action c.
 pub fn bar(mask: u8, c: u8) -> u8
     requires { ⌜ c < 8 ⌝ }
-    ensures { λ r. ⌜ ((d : ℕ) → d < 8 → has r d ≡ (eqb d c || has mask d)) ⌝ }
+    ensures { λ r. ⌜ r ≡ with mask c ⌝ }
 {
     mask | (1 << c)
 }

@@ -13,7 +13,7 @@ ghost use Rattle.index.specs.Index.{IndexOf};
 ghost use Rattle.policy.specs.Marks.{Marks, mark};
 
 // State 0 is reached, and no other is known to be.
-fn first_marks() -> [bool; 64]
+pub fn first_marks() -> [bool; 64]
     ensures { λ r. ⌜ Marks r (0 ∷ []) ⌝ }
 {
     let mut marks = [false; 64];
@@ -33,7 +33,7 @@ fn byte_allowed(b: &[i32], z: Sizes, p: usize, reached: bool, c: usize) -> bool
 }
 
 // Marks the next states of action c of state p. They are counted from the first state of the next stage, which x has at 64 + p.
-fn mark_nexts(b: &[i32], z: Sizes, x: &[usize; 192], p: usize, c: usize, marks: &mut [bool; 64])
+pub fn mark_nexts(b: &[i32], z: Sizes, x: &[usize; 192], p: usize, c: usize, marks: &mut [bool; 64])
     requires { ⌜ (bookNumber (now b) ≡ 0) × SizesAre (now b) z × IndexOf (now b) (now x) × (p < stateCount (now b)) × (c < actionCount (now b) p) ⌝ }
     ensures { λ _. ⌜ now (marks .exit) ≡ mark (nexts (action (now (b .entry)) p c .transitions)) (now (marks .entry)) ⌝ }
 {

@@ -18,6 +18,7 @@ use Rattle.laws.specs.Int.{≤ℤ-trans, leZ-no, <→≤}
 use Rattle.laws.specs.Members.{Every, every-in, true-T, false-T, upFrom-in, in-upFrom}
 use Rattle.laws.specs.Best.{best-in}
 use Rattle.masks.specs.Masks.{has, free}
+use Rattle.masks.proofs.Free.{free-below}
 use Rattle.table.specs.Table.{Chosen, better}
 
 -- one test of two costs is the other's negation
@@ -91,14 +92,6 @@ module _ (f : ℕ → ℤ) where
   best-cons x [] h k = sym (none-right x (inr h))
   best-cons x (y ∷ ys) h k =
       sym (two x (firstLeast f y ys) h (every-in (λ c. c < 8) (y ∷ ys) k (firstLeast f y ys) (best-in f (y ∷ ys) y (inl refl))))
-
-pub free-below : (mask i m : ℕ) → i + m ≤ 8 → Every (λ c. c < 8) (free mask i m)
-free-below mask i zero h = tt
-free-below mask i (suc m) h = go (has mask i) (free-below mask (suc i) m (omega arith))
-  where
-    go : (b : Bool) → Every (λ c. c < 8) (free mask (suc i) m) → Every (λ c. c < 8) (cond b (free mask (suc i) m) (i ∷ free mask (suc i) m))
-    go true r = r
-    go false r = (omega arith, r)
 
 -- one action from the front
 pub free-step : (mask c n : ℕ) → c < n

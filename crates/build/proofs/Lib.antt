@@ -1,0 +1,4 @@
+pub mod Best
+pub mod Split
+pub mod Walk
+pub mod Pass

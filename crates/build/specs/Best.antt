@@ -1,0 +1,28 @@
+-- The first best action of each state, and the table that it is read from.
+-- Assumes nothing.
+use mathlib.Core.Path.{_≡_}
+use mathlib.Core.List.{List}
+use Prim.Native.Nat.{ℕ, _<_}
+use lib.IntN.{ℤ}
+use lib.ListN.{length, getD}
+use Rattle.model.specs.Model.{Words, scale, stateCount, togo, actionCount, action, options}
+use Rattle.model.specs.Recursion.{bestOf, through}
+use Rattle.table.specs.Table.{rowOf}
+
+-- the first best action of state p
+abbrev pub bestAt : Words → ℕ → ℕ
+bestAt ws p = bestOf (through (scale ws) (action ws) (options ws) (togo ws p) p) (options ws p)
+
+-- q has the costs of the actions of every state
+pub record RowsOf (ws : Words) (q : List ℤ) : Type 0 where
+  pub rows : length q ≡ 512
+  pub through-is : (p c : ℕ) → p < stateCount ws → c < actionCount ws p
+      → rowOf q p c ≡ through (scale ws) (action ws) (options ws) (togo ws p) p c
+
+-- xs has the first best actions of the states below n
+pub record BestTo (ws : Words) (n : ℕ) (xs : List ℕ) : Type 0 where
+  pub long : length xs ≡ 64
+  pub best-is : (p : ℕ) → p < n → getD xs p 0 ≡ bestAt ws p
+
+abbrev pub BestOf : Words → List ℕ → Type 0
+BestOf ws xs = BestTo ws (stateCount ws) xs

@@ -1,0 +1,80 @@
+// The bytes of a policy that keeps to another's bytes before one state, takes a given action there, and first best actions after it.
+use book::Sizes;
+ghost use mathlib.Core.Path.{_≡_};
+ghost use mathlib.Core.List.{[], _∷_};
+ghost use Prim.Native.Nat.{_<_};
+ghost use lib.ListN.{length, getD};
+ghost use Rattle.model.specs.Model.{stateCount, actionCount, action};
+ghost use Rattle.model.specs.Questions.{bookNumber};
+ghost use Rattle.model.specs.Path.{byteAt};
+ghost use Rattle.book.specs.Read.{SizesAre};
+ghost use Rattle.index.specs.Index.{IndexOf};
+ghost use Rattle.build.specs.Best.{RowsOf, BestOf};
+ghost use Rattle.build.specs.Walk.{walkBy, splitBy, chosen, Usable, Stepped};
+
+fn zeros() -> [usize; 64]
+    ensures { λ r. ⌜ length r ≡ 64 ⌝ }
+{
+    [0; 64]
+}
+
+// The first best action of every state, by the table q of the costs of its actions.
+pub fn best_actions(b: &[i32], z: Sizes, q: &[i64; 512]) -> [usize; 64]
+    requires { ⌜ (bookNumber (now b) ≡ 0) × SizesAre (now b) z × RowsOf (now b) (now q) ⌝ }
+    ensures { λ r. ⌜ BestOf (now (b .entry)) r ⌝ }
+{
+    let s = z.s;
+    let mut best = zeros();
+    let mut p: usize = 0;
+    while p < s {
+        let n = index::count(b, z, p);
+        let c = table::best_action(q, p, n, 0);
+        best[p] = c;
+        p = p + 1;
+    }
+    best
+}
+
+// The action at state s: the byte of `plan` before state r, c at r, and that of `best` after it.
+fn choice(best: &[usize; 64], plan: &[u8], r: usize, c: usize, s: usize) -> usize
+    requires { ⌜ (s < 64) × (s < r → s < length (now plan)) ⌝ }
+    ensures { λ a. ⌜ a ≡ splitBy (byteAt (now (plan .entry))) r c (λ p. getD (now (best .entry)) p 0) s ⌝ }
+{
+    if s < r {
+        return plan[s] as usize;
+    }
+    if s == r {
+        return c;
+    }
+    best[s]
+}
+
+// The byte of state s, whose next states are marked: its action if the state is marked, else 255.
+fn step(b: &[i32], z: Sizes, x: &[usize; 192], best: &[usize; 64], plan: &[u8], r: usize, c: usize, s: usize, marks: &mut [bool; 64]) -> u8
+    requires { ⌜ (bookNumber (now b) ≡ 0) × SizesAre (now b) z × IndexOf (now b) (now x) × BestOf (now b) (now best) × Usable (now b) (now plan) r × (c < actionCount (now b) r) × (s < stateCount (now b)) ⌝ }
+    ensures { λ a. ⌜ Stepped (action (now (b .entry))) s (chosen (now (b .entry)) (now (plan .entry)) r c s) a (now (marks .entry)) (now (marks .exit)) ⌝ }
+{
+    if !marks[s] {
+        return 255;
+    }
+    let a = choice(best, plan, r, c, s);
+    if a != 255 {
+        policy::mark_nexts(b, z, x, s, a, marks);
+    }
+    a as u8
+}
+
+// The bytes of the policy that has those of `plan` before state r, takes action c at r and first best actions after it.
+pub fn build(b: &[i32], z: Sizes, x: &[usize; 192], best: &[usize; 64], plan: &[u8], r: usize, c: usize, out: &mut [u8])
+    requires { ⌜ (bookNumber (now b) ≡ 0) × SizesAre (now b) z × IndexOf (now b) (now x) × BestOf (now b) (now best) × Usable (now b) (now plan) r × (r < stateCount (now b)) × (c < actionCount (now b) r) × (length (now out) ≡ stateCount (now b)) ⌝ }
+    ensures { λ _. ⌜ now (out .exit) ≡ walkBy (action (now (b .entry))) (chosen (now (b .entry)) (now (plan .entry)) r c) (stateCount (now (b .entry))) 0 (0 ∷ []) ⌝ }
+{
+    let n = z.s;
+    let mut marks = policy::first_marks();
+    let mut s: usize = 0;
+    while s < n {
+        let a = step(b, z, x, best, plan, r, c, s, &mut marks);
+        out[s] = a;
+        s = s + 1;
+    }
+}

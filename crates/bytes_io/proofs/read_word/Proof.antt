@@ -1,0 +1,19 @@
+use borrow.Author.Needs.{needs}
+use Rattle.bytes_io.proofs.read_word.Statement.{statement}
+use Rattle.bytes_io.proofs.read_word.Tie as tie
+use Rattle.bytes_io.proofs.read_word.Reads as reads
+use Rattle.bytes_io.proofs.read_word.Lts as lts
+use Rattle.bytes_io.proofs.read4.Reads as read4-reads
+use Rattle.bytes_io.proofs.to_signed.Reads as to-signed-reads
+
+read4-requires : tie.Need-read4-requires
+read4-requires c κs = search needs
+
+to-signed-requires : tie.Need-to-signed-requires
+to-signed-requires c κs = search needs
+
+returns : tie.Need-returns
+returns c = search needs
+
+pub read-word-spec : {M : Type 1} → statement M
+read-word-spec = tie.close (tie.spec read4-requires to-signed-requires returns)

@@ -1,0 +1,16 @@
+-- A slice with a part written over, and the unsigned number whose bytes say a signed one.
+-- Assumes nothing.
+use mathlib.Core.List.{List, _++_}
+use Prim.Native.Nat.{ℕ, _+_, _-_}
+use lib.IntN.{ℤ, pos, negsuc}
+use lib.ListN.{take, drop}
+
+module _ {A : Type 0} where
+  -- the slice `o` with the n elements xs from index `at` on
+  abbrev pub written : List A → ℕ → ℕ → List A → List A
+  written o at n xs = take at o ++ xs ++ drop (at + n) o
+
+-- two's complement, where `most` is the largest unsigned number of the width
+abbrev pub complement : ℕ → ℤ → ℕ
+complement most (pos x) = x
+complement most (negsuc x) = most - x

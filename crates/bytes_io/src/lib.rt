@@ -1,0 +1,209 @@
+// Numbers in byte slices, low byte first: read, written and compared.
+ghost use mathlib.Core.Path.{_≡_};
+ghost use mathlib.Core.List.{_++_};
+ghost use Prim.Native.Nat.{_+_, _*_, _<_, _≤_};
+ghost use lib.Signed.{mag};
+ghost use lib.ListN.{length, take, drop};
+ghost use Rattle.model.specs.Lists.{forEach, same};
+ghost use Rattle.model.specs.Bytes.{bytes, signedBytes, fromBytes, signed, wordsOf};
+ghost use Rattle.model.specs.Calls.{over};
+ghost use Rattle.bytes_io.specs.Slices.{written, complement};
+
+// ---- reading
+
+fn wide(x: u8) -> u64
+    ensures { λ q. ⌜ (q ≡ x) × (q < 256) ⌝ }
+{
+    x as u64
+}
+
+// The four bytes from index `at` on as an unsigned number.
+pub fn read4(r: &[u8], at: usize) -> u64
+    requires { ⌜ at + 4 ≤ length (now r) ⌝ }
+    ensures { λ x. ⌜ (x ≡ fromBytes (take 4 (drop at (now (r .entry))))) × (x < 4294967296) ⌝ }
+{
+    let a = wide(r[at]);
+    let b = wide(r[at + 1]);
+    let c = wide(r[at + 2]);
+    let d = wide(r[at + 3]);
+    a + 256 * (b + 256 * (c + 256 * d))
+}
+
+// Two's complement in.
+fn to_signed(u: u64) -> i32
+    requires { ⌜ u < 4294967296 ⌝ }
+    ensures { λ x. ⌜ x ≡ signed u ⌝ }
+{
+    if u < 2147483648 {
+        return u as i32;
+    }
+    -1 - ((4294967295 - u) as i32)
+}
+
+// The four bytes from index `at` on as a signed word.
+pub fn read_word(r: &[u8], at: usize) -> i32
+    requires { ⌜ at + 4 ≤ length (now r) ⌝ }
+    ensures { λ x. ⌜ x ≡ signed (fromBytes (take 4 (drop at (now (r .entry))))) ⌝ }
+{
+    to_signed(read4(r, at))
+}
+
+// The n words from index `at` on, to the front of `out`.
+pub fn read_words(r: &[u8], at: usize, n: usize, out: &mut [i32])
+    requires { ⌜ (at + 4 * n ≤ length (now r)) × (n ≤ length (now out)) ⌝ }
+    ensures { λ _. ⌜ (now (out .exit) ≡ over (wordsOf n (drop at (now (r .entry)))) (now (out .entry))) × (length (now (out .exit)) ≡ length (now (out .entry))) ⌝ }
+{
+    let mut i: usize = 0;
+    while i < n {
+        let x = read_word(r, at + 4 * i);
+        out[i] = x;
+        i = i + 1;
+    }
+}
+
+// ---- writing
+
+// The n low bytes of x.
+fn write_low(out: &mut [u8], at: usize, n: usize, x: u64)
+    requires { ⌜ at + n ≤ length (now out) ⌝ }
+    ensures { λ _. ⌜ now (out .exit) ≡ written (now (out .entry)) at n (bytes n x) ⌝ }
+{
+    let mut y = x;
+    let mut i: usize = 0;
+    while i < n {
+        out[at + i] = (y % 256) as u8;
+        y = y / 256;
+        i = i + 1;
+    }
+}
+
+// Two's complement out, where `most` is the largest unsigned number of the width.
+fn to_unsigned(x: i64, most: u64) -> u64
+    requires { ⌜ mag x ≤ most ⌝ }
+    ensures { λ q. ⌜ q ≡ complement most x ⌝ }
+{
+    if x < 0 {
+        return most - ((-1 - x) as u64);
+    }
+    x as u64
+}
+
+// An unsigned number of four bytes.
+pub fn write4(out: &mut [u8], at: usize, x: usize)
+    requires { ⌜ (at + 4 ≤ length (now out)) × (x < 4294967296) ⌝ }
+    ensures { λ _. ⌜ now (out .exit) ≡ written (now (out .entry)) at 4 (bytes 4 x) ⌝ }
+{
+    write_low(out, at, 4, x as u64);
+}
+
+// A signed word of four bytes.
+pub fn write_word(out: &mut [u8], at: usize, x: i32)
+    requires { ⌜ at + 4 ≤ length (now out) ⌝ }
+    ensures { λ _. ⌜ now (out .exit) ≡ written (now (out .entry)) at 4 (signedBytes 4 x) ⌝ }
+{
+    write_low(out, at, 4, to_unsigned(x as i64, 4294967295));
+}
+
+// A cost of eight bytes.
+pub fn write_cost(out: &mut [u8], at: usize, x: i64)
+    requires { ⌜ at + 8 ≤ length (now out) ⌝ }
+    ensures { λ _. ⌜ now (out .exit) ≡ written (now (out .entry)) at 8 (signedBytes 8 x) ⌝ }
+{
+    write_low(out, at, 8, to_unsigned(x, 18446744073709551615));
+}
+
+// Every word of ws.
+pub fn write_words(out: &mut [u8], at: usize, ws: &[i32])
+    requires { ⌜ at + 4 * length (now ws) ≤ length (now out) ⌝ }
+    ensures { λ _. ⌜ now (out .exit) ≡ written (now (out .entry)) at (4 * length (now (ws .entry))) (forEach (signedBytes 4) (now (ws .entry))) ⌝ }
+{
+    let n = ws.len();
+    let mut i: usize = 0;
+    while i < n {
+        let x = ws[i];
+        write_word(out, at + 4 * i, x);
+        i = i + 1;
+    }
+}
+
+// The first k costs.
+pub fn write_costs(out: &mut [u8], at: usize, costs: &[i64], k: usize)
+    requires { ⌜ (at + 8 * k ≤ length (now out)) × (k ≤ length (now costs)) ⌝ }
+    ensures { λ _. ⌜ now (out .exit) ≡ written (now (out .entry)) at (8 * k) (forEach (signedBytes 8) (take k (now (costs .entry)))) ⌝ }
+{
+    let mut i: usize = 0;
+    while i < k {
+        let x = costs[i];
+        write_cost(out, at + 8 * i, x);
+        i = i + 1;
+    }
+}
+
+// The first n bytes of src.
+pub fn write_bytes(out: &mut [u8], at: usize, src: &[u8], n: usize)
+    requires { ⌜ (at + n ≤ length (now out)) × (n ≤ length (now src)) ⌝ }
+    ensures { λ _. ⌜ now (out .exit) ≡ written (now (out .entry)) at n (take n (now (src .entry))) ⌝ }
+{
+    let mut i: usize = 0;
+    while i < n {
+        out[at + i] = src[i];
+        i = i + 1;
+    }
+}
+
+// ---- comparing
+
+// Do the n bytes from index `at` on say the n low bytes of x?
+fn same_low(r: &[u8], at: usize, n: usize, x: u64) -> bool
+    requires { ⌜ at + n ≤ length (now r) ⌝ }
+    ensures { λ q. ⌜ q ≡ same (take n (drop at (now (r .entry)))) (bytes n x) ⌝ }
+{
+    let mut y = x;
+    let mut i: usize = 0;
+    while i < n {
+        if wide(r[at + i]) != y % 256 {
+            return false;
+        }
+        y = y / 256;
+        i = i + 1;
+    }
+    true
+}
+
+fn same_cost(r: &[u8], at: usize, x: i64) -> bool
+    requires { ⌜ at + 8 ≤ length (now r) ⌝ }
+    ensures { λ q. ⌜ q ≡ same (take 8 (drop at (now (r .entry)))) (signedBytes 8 x) ⌝ }
+{
+    same_low(r, at, 8, to_unsigned(x, 18446744073709551615))
+}
+
+// Are the bytes from index `at` on those of the first k costs?
+pub fn same_costs(r: &[u8], at: usize, costs: &[i64], k: usize) -> bool
+    requires { ⌜ (at + 8 * k ≤ length (now r)) × (k ≤ length (now costs)) ⌝ }
+    ensures { λ q. ⌜ q ≡ same (take (8 * k) (drop at (now (r .entry)))) (forEach (signedBytes 8) (take k (now (costs .entry)))) ⌝ }
+{
+    let mut i: usize = 0;
+    while i < k {
+        let x = costs[i];
+        if !same_cost(r, at + 8 * i, x) {
+            return false;
+        }
+        i = i + 1;
+    }
+    true
+}
+
+// Are the bytes from index `at` on the first n of src?
+pub fn same_bytes(r: &[u8], at: usize, src: &[u8], n: usize) -> bool
+    requires { ⌜ (at + n ≤ length (now r)) × (n ≤ length (now src)) ⌝ }
+    ensures { λ q. ⌜ q ≡ same (take n (drop at (now (r .entry)))) (take n (now (src .entry))) ⌝ }
+{
+    let mut i: usize = 0;
+    while i < n {
+        if r[at + i] != src[i] {
+            return false;
+        }
+        i = i + 1;
+    }
+    true
+}

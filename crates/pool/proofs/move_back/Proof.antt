@@ -1,0 +1,74 @@
+use borrow.Author.Needs.{needs}
+use Rattle.pool.proofs.move_back.Statement.{statement}
+use Rattle.pool.proofs.move_back.Tie as tie
+use Rattle.pool.proofs.move_back.Reads as reads
+use Rattle.pool.proofs.move_back.Lts as lts
+
+abbrev Inv-loop : tie.InvT-loop
+Inv-loop order₀ n slot last t₀ order t = ?
+
+abbrev μ-loop : tie.MeasureT-loop
+μ-loop order₀ n slot last t₀ order t = ?
+
+element-copy-out-slot : tie.Need-element-copy-out-slot Inv-loop μ-loop
+element-copy-out-slot c = search needs
+
+sub-last : tie.Need-sub-last Inv-loop μ-loop
+sub-last c = search needs
+
+loop-holds : tie.Need-loop-holds Inv-loop μ-loop
+loop-holds c = search needs
+
+add-order : tie.Need-add-order Inv-loop μ-loop
+add-order c = search needs
+
+mul-order : tie.Need-mul-order Inv-loop μ-loop
+mul-order c = search needs
+
+element-copy-out-order : tie.Need-element-copy-out-order Inv-loop μ-loop
+element-copy-out-order c = search needs
+
+mul-order-2 : tie.Need-mul-order-2 Inv-loop μ-loop
+mul-order-2 c = search needs
+
+element-write-order : tie.Need-element-write-order Inv-loop μ-loop
+element-write-order c = search needs
+
+add-t : tie.Need-add-t Inv-loop μ-loop
+add-t c = search needs
+
+loop-less : tie.Need-loop-less Inv-loop μ-loop
+loop-less c = search needs
+
+loop-again : tie.Need-loop-again Inv-loop μ-loop
+loop-again c = search needs
+
+mul-order-3 : tie.Need-mul-order-3 Inv-loop μ-loop
+mul-order-3 c = search needs
+
+element-write-order-2 : tie.Need-element-write-order-2 Inv-loop μ-loop
+element-write-order-2 c = search needs
+
+returns : tie.Need-returns Inv-loop μ-loop
+returns c = search needs
+
+pub move-back-spec : {M : Type 1} → statement M
+move-back-spec =
+    tie.close
+    (tie.spec
+    Inv-loop
+    μ-loop
+    element-copy-out-slot
+    sub-last
+    loop-holds
+    add-order
+    mul-order
+    element-copy-out-order
+    mul-order-2
+    element-write-order
+    add-t
+    loop-less
+    loop-again
+    mul-order-3
+    element-write-order-2
+    returns)

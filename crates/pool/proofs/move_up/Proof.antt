@@ -1,0 +1,74 @@
+use borrow.Author.Needs.{needs}
+use Rattle.pool.proofs.move_up.Statement.{statement}
+use Rattle.pool.proofs.move_up.Tie as tie
+use Rattle.pool.proofs.move_up.Reads as reads
+use Rattle.pool.proofs.move_up.Lts as lts
+
+abbrev Inv-loop : tie.InvT-loop
+Inv-loop order₀ i n slot t₀ order t = ?
+
+abbrev μ-loop : tie.MeasureT-loop
+μ-loop order₀ i n slot t₀ order t = ?
+
+mul-slot : tie.Need-mul-slot Inv-loop μ-loop
+mul-slot c = search needs
+
+element-copy-out-slot : tie.Need-element-copy-out-slot Inv-loop μ-loop
+element-copy-out-slot c = search needs
+
+loop-holds : tie.Need-loop-holds Inv-loop μ-loop
+loop-holds c = search needs
+
+sub-order : tie.Need-sub-order Inv-loop μ-loop
+sub-order c = search needs
+
+mul-order : tie.Need-mul-order Inv-loop μ-loop
+mul-order c = search needs
+
+element-copy-out-order : tie.Need-element-copy-out-order Inv-loop μ-loop
+element-copy-out-order c = search needs
+
+mul-order-2 : tie.Need-mul-order-2 Inv-loop μ-loop
+mul-order-2 c = search needs
+
+element-write-order : tie.Need-element-write-order Inv-loop μ-loop
+element-write-order c = search needs
+
+sub-t : tie.Need-sub-t Inv-loop μ-loop
+sub-t c = search needs
+
+loop-less : tie.Need-loop-less Inv-loop μ-loop
+loop-less c = search needs
+
+loop-again : tie.Need-loop-again Inv-loop μ-loop
+loop-again c = search needs
+
+mul-order-3 : tie.Need-mul-order-3 Inv-loop μ-loop
+mul-order-3 c = search needs
+
+element-write-order-2 : tie.Need-element-write-order-2 Inv-loop μ-loop
+element-write-order-2 c = search needs
+
+returns : tie.Need-returns Inv-loop μ-loop
+returns c = search needs
+
+pub move-up-spec : {M : Type 1} → statement M
+move-up-spec =
+    tie.close
+    (tie.spec
+    Inv-loop
+    μ-loop
+    mul-slot
+    element-copy-out-slot
+    loop-holds
+    sub-order
+    mul-order
+    element-copy-out-order
+    mul-order-2
+    element-write-order
+    sub-t
+    loop-less
+    loop-again
+    mul-order-3
+    element-write-order-2
+    returns)

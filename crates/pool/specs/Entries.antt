@@ -1,0 +1,76 @@
+-- The candidates that wait in a pool, as a list of entries.
+-- Assumes nothing.
+use mathlib.Core.Path.{_≡_}
+use mathlib.Core.Bool.{Bool, cond, not, _&&_, _||_}
+use mathlib.Core.List.{List, [], _∷_, _++_, map}
+use Prim.Native.Nat.{ℕ, suc, _+_, _*_, _-_, _≤_, _<_}
+use lib.IntN.{ℤ, pos}
+use lib.Signed.{ltZ}
+use lib.ListN.{length, getD, take, drop}
+use Rattle.model.specs.Order.{lower}
+use Rattle.laws.specs.Members.{Every, Apart}
+use Rattle.pool.specs.declared.Pool.{Pool}
+
+-- ---- entries
+
+-- a candidate: its cost, its first policy, the state where it splits from its parent and the set of actions barred there
+pub record Entry : Type 0 where
+  pub cost : ℤ
+  pub plan : List ℕ
+  pub split : ℕ
+  pub mask : ℕ
+
+-- the s bytes of a slot
+abbrev pub row : ℕ → List ℕ → ℕ → List ℕ
+row s plans j = take s (drop (j * 64) plans)
+
+-- the entry of a slot
+abbrev pub entryAt : ℕ → Pool → ℕ → Entry
+entryAt s p j =
+    record { cost = getD (p .costs) j (pos 0); plan = row s (p .plans) j; split = getD (p .splits) j 0; mask = getD (p .barred) j 0 }
+
+-- the entry of the first slot
+abbrev pub firstEntry : ℕ → Pool → Entry
+firstEntry s p = entryAt s p (getD (p .order) 0 0)
+
+-- the entries that wait, in order
+abbrev pub entries : ℕ → Pool → List Entry
+entries s p = map (entryAt s p) (take (p .count) (p .order))
+
+-- the slots, each once
+pub record Slots (order : List ℕ) : Type 0 where
+  pub long : length order ≡ 64
+  pub low : Every (λ (j : ℕ). j < 64) order
+  pub apart : Apart order
+
+pub record Formed (p : Pool) : Type 0 where
+  pub costs-long : length (p .costs) ≡ 64
+  pub plans-long : length (p .plans) ≡ 4096
+  pub splits-long : length (p .splits) ≡ 64
+  pub barred-long : length (p .barred) ≡ 64
+  pub count-high : p .count ≤ 64
+  pub slots : Slots (p .order)
+
+-- ---- their order, which is that of the policies
+
+abbrev pub earlierEntry : Entry → Entry → Bool
+earlierEntry e d = ltZ (e .cost) (d .cost) || (not (ltZ (d .cost) (e .cost)) && lower (e .plan) (d .plan))
+
+-- is a cost and a plan earlier than those of slot j?
+abbrev pub earlierThan : ℤ → List ℕ → ℕ → List ℤ → List ℕ → ℕ → Bool
+earlierThan x bs s costs plans j = ltZ x (getD costs j (pos 0)) || (not (ltZ (getD costs j (pos 0)) x) && lower bs (row s plans j))
+
+-- how many numbers stand before the first that passes the test
+abbrev pub firstYes : (ℕ → Bool) → List ℕ → ℕ
+firstYes test [] = 0
+firstYes test (x ∷ xs) = cond (test x) 0 (suc (firstYes test xs))
+
+-- ---- changes of the order of the slots
+
+-- slot n goes to place i, and those from i on make room
+abbrev pub movedUp : ℕ → ℕ → List ℕ → List ℕ
+movedUp i n order = take i order ++ (getD order n 0 ∷ (take (n - i) (drop i order) ++ drop (n + 1) order))
+
+-- the first slot goes to the end of the first n
+abbrev pub movedBack : ℕ → List ℕ → List ℕ
+movedBack n order = take (n - 1) (drop 1 order) ++ (getD order 0 0 ∷ drop n order)

@@ -1,0 +1,227 @@
+// The candidates that wait in the search, at most 64, in order. The slots are reached through `order`, so that an insertion moves numbers and not
+// plans.
+ghost use mathlib.Core.Path.{_≡_};
+ghost use mathlib.Core.List.{[], _∷_};
+ghost use Prim.Native.Nat.{ℕ, _+_, _*_, _<_, _≤_};
+ghost use lib.ListN.{length, take};
+ghost use lib.Seq.{paste};
+ghost use Rattle.model.specs.Lists.{upFrom, insert};
+ghost use Rattle.model.specs.Order.{lower};
+ghost use Rattle.pool.specs.Entries.{row, firstEntry, entries, Slots, Formed, earlierEntry, earlierThan, firstYes, movedUp, movedBack};
+
+pub struct Pool {
+    // by slot
+    pub costs: [i64; 64],
+    // by slot, 64 bytes each
+    pub plans: [u8; 4096],
+    // by slot: the state where the candidate splits from its parent
+    pub splits: [usize; 64],
+    // by slot: the set of actions barred there
+    pub barred: [u8; 64],
+    // the slots: first those that wait, in order, then the free ones
+    pub order: [usize; 64],
+    // how many wait
+    pub count: usize,
+}
+
+fn zeros() -> [usize; 64]
+    ensures { λ r. ⌜ length r ≡ 64 ⌝ }
+{
+    [0; 64]
+}
+
+// The slots 0, 1, .., 63.
+fn first_order() -> [usize; 64]
+    ensures { λ r. ⌜ r ≡ upFrom 0 64 ⌝ }
+{
+    let mut order = zeros();
+    let mut i: usize = 0;
+    while i < 64 {
+        order[i] = i;
+        i = i + 1;
+    }
+    order
+}
+
+// None waits.
+pub fn empty() -> Pool
+    ensures { λ r. ⌜ Formed r × ((s : ℕ) → entries s r ≡ []) ⌝ }
+{
+    Pool {
+        costs: [0; 64],
+        plans: [0; 4096],
+        splits: zeros(),
+        barred: [0; 64],
+        order: first_order(),
+        count: 0,
+    }
+}
+
+// Is the plan lower than that of slot j?
+fn lower_bytes(plans: &[u8; 4096], j: usize, s: usize, plan: &[u8]) -> bool
+    requires { ⌜ (j < 64) × (s ≤ 64) × (length (now plan) ≡ s) ⌝ }
+    ensures { λ r. ⌜ r ≡ lower (now (plan .entry)) (row s (now (plans .entry)) j) ⌝ }
+{
+    let base = j * 64;
+    let mut i: usize = 0;
+    while i < s {
+        let a = plan[i];
+        let b = plans[base + i];
+        if a != b {
+            return a < b;
+        }
+        i = i + 1;
+    }
+    false
+}
+
+// Does the candidate come before that of slot j? The bytes count only where the costs are equal.
+fn earlier<'a>(costs: &'a [i64; 64], plans: &'a [u8; 4096], j: usize, s: usize, cost: i64, plan: &[u8]) -> bool
+    requires { ⌜ (j < 64) × (s ≤ 64) × (length (now plan) ≡ s) ⌝ }
+    ensures { λ r. ⌜ r ≡ earlierThan cost (now (plan .entry)) s (now (costs .entry)) (now (plans .entry)) j ⌝ }
+{
+    let other = costs[j];
+    if cost < other {
+        return true;
+    }
+    if other < cost {
+        return false;
+    }
+    lower_bytes(plans, j, s, plan)
+}
+
+// How many of the first n slots of `order` hold candidates that stay before the new one.
+fn place<'a>(costs: &'a [i64; 64], plans: &'a [u8; 4096], order: &'a [usize; 64], n: usize, s: usize, cost: i64, plan: &[u8]) -> usize
+    requires { ⌜ Slots (now order) × (n ≤ 64) × (s ≤ 64) × (length (now plan) ≡ s) ⌝ }
+    ensures { λ r. ⌜ r ≡ firstYes (earlierThan cost (now (plan .entry)) s (now (costs .entry)) (now (plans .entry))) (take n (now (order .entry))) ⌝ }
+{
+    let mut i: usize = 0;
+    while i < n {
+        if earlier(costs, plans, order[i], s, cost, plan) {
+            return i;
+        }
+        i = i + 1;
+    }
+    i
+}
+
+// The plan goes into slot j.
+fn write_row(plans: &mut [u8; 4096], j: usize, s: usize, plan: &[u8])
+    requires { ⌜ (j < 64) × (s ≤ 64) × (length (now plan) ≡ s) ⌝ }
+    ensures { λ _. ⌜ now (plans .exit) ≡ paste (now (plans .entry)) (j * 64) (now (plan .entry)) s ⌝ }
+{
+    let base = j * 64;
+    let mut i: usize = 0;
+    while i < s {
+        plans[base + i] = plan[i];
+        i = i + 1;
+    }
+}
+
+// The slot at place n goes to place i, and those from place i on move up by one.
+fn move_up(order: &mut [usize; 64], i: usize, n: usize)
+    requires { ⌜ (i ≤ n) × (n < 64) ⌝ }
+    ensures { λ _. ⌜ now (order .exit) ≡ movedUp i n (now (order .entry)) ⌝ }
+{
+    let slot = order[n];
+    let mut t = n;
+    while i < t {
+        order[t] = order[t - 1];
+        t = t - 1;
+    }
+    order[i] = slot;
+}
+
+// The first slot goes to place n - 1, and those up to there move down by one.
+fn move_back(order: &mut [usize; 64], n: usize)
+    requires { ⌜ (1 ≤ n) × (n ≤ 64) ⌝ }
+    ensures { λ _. ⌜ now (order .exit) ≡ movedBack n (now (order .entry)) ⌝ }
+{
+    let slot = order[0];
+    let last = n - 1;
+    let mut t: usize = 0;
+    while t < last {
+        order[t] = order[t + 1];
+        t = t + 1;
+    }
+    order[last] = slot;
+}
+
+// The candidate goes in front of the first that it comes before, or to the end. No more than k are kept.
+pub fn insert(p: Pool, k: usize, s: usize, cost: i64, plan: &[u8], split: usize, mask: u8) -> Pool
+    requires { ⌜ Formed p × (1 ≤ s) × (s ≤ 64) × (1 ≤ k) × (k ≤ 64) × (p .count ≤ k) × (length (now plan) ≡ s) ⌝ }
+    ensures formed { λ r. ⌜ Formed r × (r .count ≤ k) ⌝ }
+    ensures kept { λ r. ⌜ entries s r ≡ take k (insert earlierEntry (record { cost = cost; plan = now (plan .entry); split = split; mask = mask }) (entries s p)) ⌝ }
+{
+    let n = p.count;
+    let i = place(&p.costs, &p.plans, &p.order, n, s, cost, plan);
+    if i == k {
+        return p;
+    }
+    let mut last = n;
+    if n == k {
+        last = k - 1;
+    }
+    let mut q = p;
+    let slot = q.order[last];
+    q.costs[slot] = cost;
+    write_row(&mut q.plans, slot, s, plan);
+    q.splits[slot] = split;
+    q.barred[slot] = mask;
+    move_up(&mut q.order, i, last);
+    q.count = last + 1;
+    q
+}
+
+// The first candidate is taken away.
+pub fn pop(p: Pool) -> Pool
+    requires { ⌜ Formed p × (1 ≤ p .count) ⌝ }
+    ensures formed { λ r. ⌜ Formed r × (r .count + 1 ≡ p .count) ⌝ }
+    ensures rest { λ r. ⌜ ((s : ℕ) → entries s p ≡ firstEntry s p ∷ entries s r) ⌝ }
+{
+    let n = p.count;
+    let mut q = p;
+    move_back(&mut q.order, n);
+    q.count = n - 1;
+    q
+}
+
+// The first candidate's cost.
+pub fn first_cost(p: Pool) -> i64
+    requires { ⌜ Formed p × (1 ≤ p .count) ⌝ }
+    ensures { λ r. ⌜ ((s : ℕ) → r ≡ firstEntry s p .cost) ⌝ }
+{
+    let slot = p.order[0];
+    p.costs[slot]
+}
+
+// The state where it splits from its parent.
+pub fn first_split(p: Pool) -> usize
+    requires { ⌜ Formed p × (1 ≤ p .count) ⌝ }
+    ensures { λ r. ⌜ ((s : ℕ) → r ≡ firstEntry s p .split) ⌝ }
+{
+    let slot = p.order[0];
+    p.splits[slot]
+}
+
+// The set of actions barred there.
+pub fn first_mask(p: Pool) -> u8
+    requires { ⌜ Formed p × (1 ≤ p .count) ⌝ }
+    ensures { λ r. ⌜ ((s : ℕ) → r ≡ firstEntry s p .mask) ⌝ }
+{
+    let slot = p.order[0];
+    p.barred[slot]
+}
+
+// Its plan.
+pub fn first_plan(p: Pool, s: usize, out: &mut [u8])
+    requires { ⌜ Formed p × (1 ≤ p .count) × (1 ≤ s) × (s ≤ 64) × (length (now out) ≡ s) ⌝ }
+    ensures { λ _. ⌜ now (out .exit) ≡ firstEntry s p .plan ⌝ }
+{
+    let base = p.order[0] * 64;
+    let mut i: usize = 0;
+    while i < s {
+        out[i] = p.plans[base + i];
+        i = i + 1;
+    }
+}

@@ -1,0 +1,59 @@
+// The reach weights of a policy of a checked book. Next states are later states, so one pass over the states in order computes all of them.
+use book::Sizes;
+ghost use mathlib.Core.Path.{_≡_};
+ghost use mathlib.Core.Bool.{true};
+ghost use Prim.Native.Nat.{_<_};
+ghost use lib.ListN.{length};
+ghost use Rattle.model.specs.Model.{stateCount, actionCount, action};
+ghost use Rattle.model.specs.Questions.{bookNumber};
+ghost use Rattle.model.specs.Policy.{isPolicy};
+ghost use Rattle.book.specs.Read.{SizesAre};
+ghost use Rattle.index.specs.Index.{IndexOf};
+ghost use Rattle.splits.specs.Reach.{spread};
+ghost use Rattle.reach.specs.Weights.{weightAt, firstWeights, Holds, Room, WeightsOf};
+
+// Weight 1 at state 0, where every path begins.
+fn first_weights() -> [usize; 64]
+    ensures { λ r. ⌜ Holds r firstWeights ⌝ }
+{
+    let mut w = [0; 64];
+    w[0] = 1;
+    w
+}
+
+// Adds y times its weight to the next state of each transition of action c of state p.
+fn spread_action(b: &[i32], z: Sizes, x: &[usize; 192], p: usize, c: usize, y: usize, w: &mut [usize; 64])
+    requires { ⌜ (bookNumber (now b) ≡ 0) × SizesAre (now b) z × IndexOf (now b) (now x) × (p < stateCount (now b)) × (c < actionCount (now b) p) × (length (now w) ≡ 64) × Room y (action (now b) p c .transitions) (now w) ⌝ }
+    ensures { λ _. ⌜ Holds (now (w .exit)) (spread y (action (now (b .entry)) p c .transitions) (weightAt (now (w .entry)))) ⌝ }
+{
+    let at = 4 + z.h + z.s + index::action_line(b, z, p, x[p], c);
+    let l = z.l;
+    let r = book::size_at(b, at);
+    let base = x[64 + p];
+    let mut i: usize = 0;
+    while i < r {
+        i = i + 1;
+        let q = base + book::size_at(b, at + i);
+        let weight = book::size_at(b, at + l + i);
+        w[q] = w[q] + y * weight;
+    }
+}
+
+// The reach weights of the policy, at the number of each state.
+pub fn reach_weights(b: &[i32], z: Sizes, x: &[usize; 192], plan: &[u8]) -> [usize; 64]
+    requires { ⌜ (bookNumber (now b) ≡ 0) × SizesAre (now b) z × IndexOf (now b) (now x) × (isPolicy (now b) (now plan) ≡ true) ⌝ }
+    ensures { λ r. ⌜ WeightsOf (now (b .entry)) (now (plan .entry)) r ⌝ }
+{
+    let s = z.s;
+    let mut w = first_weights();
+    let mut p: usize = 0;
+    while p < s {
+        let c = plan[p] as usize;
+        if c != 255 {
+            let y = w[p];
+            spread_action(b, z, x, p, c, y, &mut w);
+        }
+        p = p + 1;
+    }
+    w
+}

@@ -1,0 +1,4 @@
+pub mod Entry
+pub mod Lists
+pub mod Children
+pub mod Runs
