@@ -1,9 +1,9 @@
 -- The action chosen at a state, by where the state stands.
 -- Assumes nothing.
-use mathlib.Core.Path.{_≡_, refl, sym, ap, _∙_, subst}
+use mathlib.Core.Path.{_≡_, sym, ap, _∙_, subst}
 use mathlib.Core.Bool.{cond}
-use mathlib.Core.Logic.{_⊎_, inl, inr}
-use mathlib.Core.List.{List, head-eq-of-cons-eq}
+use mathlib.Core.Logic.{_⊎_, inr}
+use mathlib.Core.List.{head-eq-of-cons-eq}
 use Prim.Native.Nat.{ℕ, _<_}
 use native.Mathlib.Decide.{decLt, ℕ-discrete}
 use native.Mathlib.Omega.{arith}
@@ -51,5 +51,5 @@ module _ (ws : Words) (ok : bookNumber ws ≡ 0) (bs : Policy) (r c : ℕ) (u : 
     where
       go : Dec (s < r) → Dec (s ≡ r) → Fine (chosen ws bs r c s)
       go (yes h) d = rw split-before (u s h .1)
-      go (no h) (yes e) = rw (split-here _ _ _ _ s e) (inr (subst (λ (p : ℕ). c < actionCount ws p) (sym e) k))
-      go (no h) (no d) = rw (split-after _ _ _ _ s (omega arith)) (inr (best-at-below ws s ok l))
+      go (no h) (yes e) = rw split-here (inr (subst (λ (p : ℕ). c < actionCount ws p) (sym e) k))
+      go (no h) (no d) = let after : r < s = omega arith in rw split-after (inr (best-at-below ws s ok l))

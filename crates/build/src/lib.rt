@@ -50,7 +50,17 @@ fn choice(best: &[usize; 64], plan: &[u8], r: usize, c: usize, s: usize) -> usiz
 }
 
 // The byte of state s, whose next states are marked: its action if the state is marked, else 255.
-fn step(b: &[i32], z: Sizes, x: &[usize; 192], best: &[usize; 64], plan: &[u8], r: usize, c: usize, s: usize, marks: &mut [bool; 64]) -> u8
+fn step(
+    b: &[i32],
+    z: Sizes,
+    x: &[usize; 192],
+    best: &[usize; 64],
+    plan: &[u8],
+    r: usize,
+    c: usize,
+    s: usize,
+    marks: &mut [bool; 64],
+) -> u8
     requires { ⌜ (bookNumber (now b) ≡ 0) × SizesAre (now b) z × IndexOf (now b) (now x) × BestOf (now b) (now best) × Usable (now b) (now plan) r × (c < actionCount (now b) r) × (s < stateCount (now b)) ⌝ }
     ensures { λ a. ⌜ Stepped (action (now (b .entry))) s (chosen (now (b .entry)) (now (plan .entry)) r c s) a (now (marks .entry)) (now (marks .exit)) ⌝ }
 {
@@ -65,7 +75,16 @@ fn step(b: &[i32], z: Sizes, x: &[usize; 192], best: &[usize; 64], plan: &[u8], 
 }
 
 // The bytes of the policy that has those of `plan` before state r, takes action c at r and first best actions after it.
-pub fn build(b: &[i32], z: Sizes, x: &[usize; 192], best: &[usize; 64], plan: &[u8], r: usize, c: usize, out: &mut [u8])
+pub fn build(
+    b: &[i32],
+    z: Sizes,
+    x: &[usize; 192],
+    best: &[usize; 64],
+    plan: &[u8],
+    r: usize,
+    c: usize,
+    out: &mut [u8],
+)
     requires { ⌜ (bookNumber (now b) ≡ 0) × SizesAre (now b) z × IndexOf (now b) (now x) × BestOf (now b) (now best) × Usable (now b) (now plan) r × (r < stateCount (now b)) × (c < actionCount (now b) r) × (length (now out) ≡ stateCount (now b)) ⌝ }
     ensures { λ _. ⌜ now (out .exit) ≡ walkBy (action (now (b .entry))) (chosen (now (b .entry)) (now (plan .entry)) r c) (stateCount (now (b .entry))) 0 (0 ∷ []) ⌝ }
 {

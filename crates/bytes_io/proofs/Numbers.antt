@@ -4,18 +4,19 @@ use mathlib.Core.Path.{_≡_, refl, sym, ap, _∙_}
 use mathlib.Core.Bool.{Bool, true, false, cond}
 use mathlib.Core.List.{List, [], _∷_, _++_, append-assoc}
 use Prim.Native.Nat.{ℕ, zero, suc, _+_, _*_, _-_, _^_, _/_, _%_, _≤_, _<_}
-use native.Mathlib.Nat.{pow-suc, div-lt-iff-lt-mul, mod-add-div, suc-inj}
+use native.Mathlib.Nat.{pow-suc, div-lt-iff-lt-mul, mod-add-div, suc-inj, zero-add}
 use native.Mathlib.Omega.{arith}
 use borrow.Author.Tests.{lt-ltb, le-ltb, ltb-true, ltb-false}
-use lib.Dec.{ltb, lit<}
-use lib.IntN.{ℤ, pos, negsuc}
-use lib.Signed.{mag}
+use lib.Dec.{T, ltb}
+use lib.IntN.{ℤ, pos, negsuc, natAbs, _-ℤ_}
+use lib.Signed.{mag, ltZ, nonNeg}
 use lib.ListN.{length, take, drop, getD, length-append}
-use lib.Seq.{length-take-le, take-at, drop-at}
+use lib.Seq.{length-take-le, take-at, drop-at, drop-drop}
 use Rattle.model.specs.Lists.{forEach}
 use Rattle.model.specs.Bytes.{bytes, signedBytes, fromBytes, signed, wordsOf}
 use Rattle.laws.specs.Members.{In, Every}
 use Rattle.bytes_io.specs.Slices.{complement}
+use Rattle.bytes_io.proofs.Parts.{part-step}
 
 -- ---- lengths
 
@@ -40,6 +41,10 @@ read-bytes (suc n) x h =
     let q : x / 256 < 256 ^ n = div-lt-iff-lt-mul {k = 256} {x = x} {y = 256 ^ n} (omega arith) .1 (rw pow-suc at h) in
     rw (read-bytes n (x / 256) q) (mod-add-div x 256)
 
+-- one byte from the front
+pub bytes-step : (i n y : ℕ) → i < n → bytes (n - i) y ≡ y % 256 ∷ bytes (n - (i + 1)) (y / 256)
+bytes-step i n y h = let k : n - i ≡ suc (n - (i + 1)) = omega arith in rw k
+
 -- a list of bytes
 abbrev pub Bytes : List ℕ → Type 0
 Bytes bs = Every (λ b. b < 256) bs
@@ -58,7 +63,42 @@ bytes-read (suc n) (b ∷ bs) e h =
     let d : (b + 256 * fromBytes bs) / 256 ≡ fromBytes bs = omega (arith, h .0) in
     rw (m, d, bytes-read n bs (suc-inj e) (h .1))
 
+-- four bytes of a slice
+pub four-bytes : (r : List ℕ) (at : ℕ) → at + 4 ≤ length r
+    → fromBytes (take 4 (drop at r)) ≡ getD r at 0 + 256 * (getD r (at + 1) 0 + 256 * (getD r (at + 2) 0 + 256 * getD r (at + 3) 0))
+four-bytes r at h =
+    rw (
+      part-step r 0 4 at (at + 1) 0 (omega arith) (omega arith) refl,
+      part-step r 1 4 (at + 1) (at + 2) 0 (omega arith) (omega arith) (omega arith),
+      part-step r 2 4 (at + 2) (at + 3) 0 (omega arith) (omega arith) (omega arith),
+      part-step r 3 4 (at + 3) (at + 4) 0 (omega arith) (omega arith) (omega arith),
+    )
+    (omega arith)
+
 -- ---- signed numbers
+
+-- `-1 - n`
+pub below : (n : ℕ) → negsuc 0 -ℤ pos n ≡ negsuc n
+below zero = refl
+below (suc n) = ap (λ (k : ℕ). negsuc (suc k)) (zero-add n)
+
+-- `-1 - x` of a number below 0
+pub above : (x : ℤ) → ltZ x (pos 0) ≡ true → negsuc 0 -ℤ x ≡ pos (mag x)
+above (pos n) e = absurd (omega (arith, ltb-true n 0 e))
+above (negsuc n) e = let h : suc n - 1 ≡ n = omega arith in rw (le-ltb (suc n) 1 (omega arith), h)
+
+pub complement-neg : (most : ℕ) (x : ℤ) → ltZ x (pos 0) ≡ true → most - mag x ≡ complement most x
+complement-neg most (pos n) e = absurd (omega (arith, ltb-true n 0 e))
+complement-neg most (negsuc n) e = refl
+
+pub record NotNegative (most : ℕ) (x : ℤ) : Type 0 where
+  pub sign : T (nonNeg x)
+  pub size : natAbs x ≡ mag x
+  pub is : natAbs x ≡ complement most x
+
+pub complement-pos : (most : ℕ) (x : ℤ) → ltZ x (pos 0) ≡ false → NotNegative most x
+complement-pos most (pos n) e = record { sign = tt; size = refl; is = refl }
+complement-pos most (negsuc n) e = let z : _≡_ {A = ℕ} 0 1 = cc in absurd (omega arith)
 
 pub signed-complement : (n : ℕ) (z : ℤ) → signedBytes n z ≡ bytes n (complement (256 ^ n - 1) z)
 signed-complement n (pos x) = refl
@@ -81,6 +121,11 @@ signed-read bs e h = go (ltb (fromBytes bs) 2147483648) ∙ bytes-read 4 bs e h
     go false = let s : 256 ^ 4 - suc (4294967295 - fromBytes bs) ≡ fromBytes bs = omega (arith, low) in ap (bytes 4) s
 
 -- ---- words
+
+-- one word from the front
+pub words-step : (r : List ℕ) (i n p q : ℕ) → i < n → q ≡ p + 4
+    → wordsOf (n - i) (drop p r) ≡ signed (fromBytes (take 4 (drop p r))) ∷ wordsOf (n - (i + 1)) (drop q r)
+words-step r i n p q h e = let k : n - i ≡ suc (n - (i + 1)) = omega arith in rw (k, e, drop-drop 4 p r)
 
 pub read-words : (n : ℕ) (ws : List ℤ) (rest : List ℕ) → length ws ≡ n → Every (λ z. mag z < 2 ^ 31) ws
     → wordsOf n (forEach (signedBytes 4) ws ++ rest) ≡ ws

@@ -39,8 +39,19 @@ module _ {A : Type 0} where
           drop-at (take at o ++ xs) (drop (at + m) o) (at + m) head,
           drop-drop n (at + m) o,
           add-assoc,
-          append-assoc,
+          ← append-assoc (take at o) xs ys,
         )
+
+  -- one element
+  pub set-step : (o : List A) (i n p q : ℕ) (a : A) (ys : List A) → i < n → p + (n - i) ≤ length o → q ≡ p + 1
+      → written o p (n - i) (a ∷ ys) ≡ written (set o p a) q (n - (i + 1)) ys
+  set-step o i n p q a ys h l e =
+      let k : n - i ≡ 1 + (n - (i + 1)) = omega arith in
+      rw (set-written o p a (omega arith), e, k) (sym (written-join o p 1 (a ∷ []) refl (omega arith) (n - (i + 1)) ys))
+
+  -- nothing is left to write
+  pub written-end : (o : List A) (i n p : ℕ) (ys : ℕ → List A) → n ≤ i → ys 0 ≡ [] → written o p (n - i) (ys (n - i)) ≡ o
+  written-end o i n p ys h e = let k : n - i ≡ 0 = omega arith in rw (k, e) (written-none o p)
 
   -- ---- the elements of a list from the front
 
@@ -48,4 +59,39 @@ module _ {A : Type 0} where
       → take (n - i) (drop p xs) ≡ getD xs p d ∷ take (n - (i + 1)) (drop q xs)
   part-step xs i n p q d h l e =
       let k : n - i ≡ suc (n - (i + 1)) = omega arith in
-      rw (k, drop-cons xs p d l, e, add-one)
+      rw (k, drop-cons xs p d l, e, add-one p)
+
+-- ---- numbers of w bytes, one for each element
+
+module _ {A : Type 0} (f : A → List ℕ) (xs : List A) (k : ℕ) where
+  -- those of the elements from index i on, up to index k
+  abbrev pub rest : ℕ → List ℕ
+  rest i = forEach f (take (k - i) (drop i xs))
+
+module _ {A : Type 0} (w : ℕ) (f : A → List ℕ) (sized : (a : A) → length (f a) ≡ w) (xs : List A) (d : A) (i k : ℕ) (h : i < k) (l : k ≤ length xs) where
+  rest-step : rest f xs k i ≡ f (getD xs i d) ++ rest f xs k (i + 1)
+  rest-step = rw (part-step xs i k i (i + 1) d h (omega arith) refl)
+
+  count-step : w * (k - i) ≡ w + w * (k - (i + 1))
+  count-step = let e : k - i ≡ suc (k - (i + 1)) = omega arith in rw (e, mul-suc) (omega arith)
+
+  index-step : (at : ℕ) → at + w * i + w ≡ at + w * (i + 1)
+  index-step at = rw (add-one i, mul-suc) (omega arith)
+
+  inside : (at n : ℕ) → at + w * k ≤ n → at + w * i + w ≤ n
+  inside at n m = omega (arith, index-step at, mul-le-mul-left {m = i + 1} {n = k} w (omega arith))
+
+  pub write-step : (o : List ℕ) (at : ℕ) → at + w * k ≤ length o
+      → written o (at + w * i) (w * (k - i)) (rest f xs k i)
+      ≡ written (written o (at + w * i) w (f (getD xs i d))) (at + w * (i + 1)) (w * (k - (i + 1))) (rest f xs k (i + 1))
+  write-step o at m =
+      rw (rest-step, count-step, ← index-step at)
+      (sym (written-join o (at + w * i) w (f (getD xs i d)) (sized (getD xs i d)) (inside at (length o) m) (w * (k - (i + 1))) (rest f xs k (i + 1))))
+
+  pub same-step : (r : List ℕ) (at : ℕ) → at + w * k ≤ length r
+      → same (take (w * (k - i)) (drop (at + w * i) r)) (rest f xs k i)
+      ≡ (same (take w (drop (at + w * i) r)) (f (getD xs i d)) && same (take (w * (k - (i + 1))) (drop (at + w * (i + 1)) r)) (rest f xs k (i + 1)))
+  same-step r at m =
+      rw (rest-step, count-step, take-add w (w * (k - (i + 1))) (drop (at + w * i) r), drop-drop w (at + w * i) r, index-step at)
+      (same-++ (take w (drop (at + w * i) r)) (take (w * (k - (i + 1))) (drop (at + w * (i + 1)) r)) (f (getD xs i d)) (rest f xs k (i + 1))
+          (length-take-le w (drop (at + w * i) r) (rw length-drop (omega (arith, inside at (length r) m))) ∙ sym (sized (getD xs i d))))

@@ -5,7 +5,7 @@ ghost use mathlib.Core.List.{[], _∷_};
 ghost use Prim.Native.Nat.{ℕ, _+_, _*_, _<_, _≤_};
 ghost use lib.ListN.{length, take};
 ghost use lib.Seq.{paste};
-ghost use Rattle.model.specs.Lists.{upFrom, insert};
+ghost use Rattle.model.specs.Lists.{insert};
 ghost use Rattle.model.specs.Order.{lower};
 ghost use Rattle.pool.specs.Entries.{row, firstEntry, entries, Slots, Formed, earlierEntry, earlierThan, firstYes, movedUp, movedBack};
 
@@ -32,7 +32,7 @@ fn zeros() -> [usize; 64]
 
 // The slots 0, 1, .., 63.
 fn first_order() -> [usize; 64]
-    ensures { λ r. ⌜ r ≡ upFrom 0 64 ⌝ }
+    ensures { λ r. ⌜ Slots r ⌝ }
 {
     let mut order = zeros();
     let mut i: usize = 0;
@@ -59,7 +59,7 @@ pub fn empty() -> Pool
 
 // Is the plan lower than that of slot j?
 fn lower_bytes(plans: &[u8; 4096], j: usize, s: usize, plan: &[u8]) -> bool
-    requires { ⌜ (j < 64) × (s ≤ 64) × (length (now plan) ≡ s) ⌝ }
+    requires { ⌜ (length (now plans) ≡ 4096) × (j < 64) × (s ≤ 64) × (length (now plan) ≡ s) ⌝ }
     ensures { λ r. ⌜ r ≡ lower (now (plan .entry)) (row s (now (plans .entry)) j) ⌝ }
 {
     let base = j * 64;
@@ -77,7 +77,7 @@ fn lower_bytes(plans: &[u8; 4096], j: usize, s: usize, plan: &[u8]) -> bool
 
 // Does the candidate come before that of slot j? The bytes count only where the costs are equal.
 fn earlier<'a>(costs: &'a [i64; 64], plans: &'a [u8; 4096], j: usize, s: usize, cost: i64, plan: &[u8]) -> bool
-    requires { ⌜ (j < 64) × (s ≤ 64) × (length (now plan) ≡ s) ⌝ }
+    requires { ⌜ (length (now plans) ≡ 4096) × (j < 64) × (s ≤ 64) × (length (now plan) ≡ s) ⌝ }
     ensures { λ r. ⌜ r ≡ earlierThan cost (now (plan .entry)) s (now (costs .entry)) (now (plans .entry)) j ⌝ }
 {
     let other = costs[j];
@@ -92,7 +92,7 @@ fn earlier<'a>(costs: &'a [i64; 64], plans: &'a [u8; 4096], j: usize, s: usize, 
 
 // How many of the first n slots of `order` hold candidates that stay before the new one.
 fn place<'a>(costs: &'a [i64; 64], plans: &'a [u8; 4096], order: &'a [usize; 64], n: usize, s: usize, cost: i64, plan: &[u8]) -> usize
-    requires { ⌜ Slots (now order) × (n ≤ 64) × (s ≤ 64) × (length (now plan) ≡ s) ⌝ }
+    requires { ⌜ (length (now plans) ≡ 4096) × Slots (now order) × (n ≤ 64) × (s ≤ 64) × (length (now plan) ≡ s) ⌝ }
     ensures { λ r. ⌜ r ≡ firstYes (earlierThan cost (now (plan .entry)) s (now (costs .entry)) (now (plans .entry))) (take n (now (order .entry))) ⌝ }
 {
     let mut i: usize = 0;
@@ -107,7 +107,7 @@ fn place<'a>(costs: &'a [i64; 64], plans: &'a [u8; 4096], order: &'a [usize; 64]
 
 // The plan goes into slot j.
 fn write_row(plans: &mut [u8; 4096], j: usize, s: usize, plan: &[u8])
-    requires { ⌜ (j < 64) × (s ≤ 64) × (length (now plan) ≡ s) ⌝ }
+    requires { ⌜ (length (now plans) ≡ 4096) × (j < 64) × (s ≤ 64) × (length (now plan) ≡ s) ⌝ }
     ensures { λ _. ⌜ now (plans .exit) ≡ paste (now (plans .entry)) (j * 64) (now (plan .entry)) s ⌝ }
 {
     let base = j * 64;
@@ -120,7 +120,7 @@ fn write_row(plans: &mut [u8; 4096], j: usize, s: usize, plan: &[u8])
 
 // The slot at place n goes to place i, and those from place i on move up by one.
 fn move_up(order: &mut [usize; 64], i: usize, n: usize)
-    requires { ⌜ (i ≤ n) × (n < 64) ⌝ }
+    requires { ⌜ (length (now order) ≡ 64) × (i ≤ n) × (n < 64) ⌝ }
     ensures { λ _. ⌜ now (order .exit) ≡ movedUp i n (now (order .entry)) ⌝ }
 {
     let slot = order[n];
@@ -134,7 +134,7 @@ fn move_up(order: &mut [usize; 64], i: usize, n: usize)
 
 // The first slot goes to place n - 1, and those up to there move down by one.
 fn move_back(order: &mut [usize; 64], n: usize)
-    requires { ⌜ (1 ≤ n) × (n ≤ 64) ⌝ }
+    requires { ⌜ (length (now order) ≡ 64) × (1 ≤ n) × (n ≤ 64) ⌝ }
     ensures { λ _. ⌜ now (order .exit) ≡ movedBack n (now (order .entry)) ⌝ }
 {
     let slot = order[0];

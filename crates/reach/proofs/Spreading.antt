@@ -59,34 +59,43 @@ pub record ToSpread (ws : Words) (at l base r x i : ℕ) (T : ℕ → ℕ) (w : 
   pub low : AtNexts (λ q. (q < 64) × (T q ≤ 10000000000000000)) (terms ws at l base i (r - i))
   pub rest : spread x (terms ws at l base i (r - i)) (weightAt w) ≡ T
 
-module _ (ws : Words) (at l base r x i : ℕ) (T : ℕ → ℕ) (w : List ℕ) (m : ToSpread ws at l base r x i T w) where
-  module _ (q k : ℕ) (more : i < r) (e : q ≡ base + natAbs (word ws (at + i))) (f : k ≡ natAbs (word ws (at + l + i))) where
+module _ {ws : Words} {at l base r x i : ℕ} {T : ℕ → ℕ} {w : List ℕ} (m : ToSpread ws at l base r x i T w) where
+  module _ (more : i < r) (q : ℕ) (e : q ≡ base + natAbs (word ws (at + i))) where
     abbrev after : List Transition
     after = terms ws at l base (i + 1) (r - (i + 1))
 
-    cons : terms ws at l base i (r - i) ≡ record { next = q; weight = k } ∷ after
-    cons =
-        terms-step ws at l base i r more
-        ∙ ap₂ (λ (n v : ℕ). record { next = n; weight = v } ∷ after) (sym e) (sym f)
+    cons : (k : ℕ) → k ≡ natAbs (word ws (at + l + i)) → terms ws at l base i (r - i) ≡ record { next = q; weight = k } ∷ after
+    cons k f =
+        terms-step ws at l base i r more ∙ ap₂ (λ (n v : ℕ). record { next = n; weight = v } ∷ after) (sym e) (sym f)
 
-    -- the sum at q, the next state of transition i, stays small; once it is stored, those from i + 1 on are left
-    pub spread-next : (q < 64) × (weightAt w q + x * k ≤ 10000000000000000) × ToSpread ws at l base r x (i + 1) T (set w q (weightAt w q + x * k))
-    unfolding spread
-    spread-next =
-        let low = rw cons at (m .low) in (
-          low .0 .0,
-          omega (arith, low .0 .1, spread-grows x after (weightAt new) q, ap (λ (W : ℕ → ℕ). W q) whole, getD-set-same w q (weightAt w q + x * k) 0 (omega arith)),
-          record { long = length-set w q (weightAt w q + x * k) ∙ m .long; low = low .1; rest = whole },
-        )
-      where
-        new : List ℕ
-        new = set w q (weightAt w q + x * k)
+    -- q, the next state of transition i, has a place
+    pub next-low : q < 64
+    next-low = (rw (cons (natAbs (word ws (at + l + i))) refl) at (m .low)) .0 .0
 
-        below : q < length w
-        below = let low = rw cons at (m .low) in omega (arith, low .0 .0, m .long)
+    module _ (k : ℕ) (f : k ≡ natAbs (word ws (at + l + i))) where
+      -- the sum there
+      abbrev sum : ℕ
+      sum = weightAt w q + x * k
 
-        whole : spread x after (weightAt new) ≡ T
-        whole = ap (spread x after) (add-set w q (x * k) below) ∙ (rw cons at (m .rest))
+      whole : spread x after (weightAt (set w q sum)) ≡ T
+      unfolding spread
+      whole = ap (spread x after) (add-set w q (x * k) (omega (arith, next-low, m .long))) ∙ (rw (cons k f) at (m .rest))
+
+      -- stays small
+      pub sum-small : sum ≤ 10000000000000000
+      sum-small =
+          let low = rw (cons k f) at (m .low) in
+          omega (
+            arith,
+            low .0 .1,
+            ap (λ (W : ℕ → ℕ). W q) whole,
+            spread-grows x after (weightAt (set w q sum)) q,
+            getD-set-same w q sum 0 (omega (arith, next-low, m .long)),
+          )
+
+      -- and once it is stored, the transitions from i + 1 on are left
+      pub spread-next : ToSpread ws at l base r x (i + 1) T (set w q sum)
+      spread-next = record { long = length-set w q sum ∙ m .long; low = (rw (cons k f) at (m .low)) .1; rest = whole }
 
   pub all-spread : r ≤ i → Holds w T
   unfolding spread

@@ -26,16 +26,17 @@ fn spread_action(b: &[i32], z: Sizes, x: &[usize; 192], p: usize, c: usize, y: u
     requires { ⌜ (bookNumber (now b) ≡ 0) × SizesAre (now b) z × IndexOf (now b) (now x) × (p < stateCount (now b)) × (c < actionCount (now b) p) × (length (now w) ≡ 64) × Room y (action (now b) p c .transitions) (now w) ⌝ }
     ensures { λ _. ⌜ Holds (now (w .exit)) (spread y (action (now (b .entry)) p c .transitions) (weightAt (now (w .entry)))) ⌝ }
 {
-    let at = 4 + z.h + z.s + index::action_line(b, z, p, x[p], c);
+    let line = 4 + z.h + z.s + index::action_line(b, z, p, x[p], c);
+    let r = book::size_at(b, line);
+    let at = line + 1;
     let l = z.l;
-    let r = book::size_at(b, at);
     let base = x[64 + p];
     let mut i: usize = 0;
     while i < r {
-        i = i + 1;
         let q = base + book::size_at(b, at + i);
         let weight = book::size_at(b, at + l + i);
         w[q] = w[q] + y * weight;
+        i = i + 1;
     }
 }
 

@@ -5,27 +5,26 @@ use mathlib.Core.Bool.{Bool, true, false, not, _&&_, cond}
 use mathlib.Core.Logic.{_⊎_, inl, inr}
 use mathlib.Core.List.{List, [], _∷_, map}
 use Prim.Native.Nat.{ℕ, zero, suc, _+_, _-_, _≤_, _<_}
-use native.Mathlib.Nat.{eq-or-lt-of-le, zero-add, add-suc, suc-add}
+use native.Mathlib.Nat.{eq-or-lt-of-le, zero-add}
 use native.Mathlib.Decide.{decLt}
 use native.Mathlib.Omega.{arith}
 use borrow.Author.Tests.{le-leb, lt-leb, ne-eqb, eq-eqb}
 use lib.Dec.{T, eqb, leb}
 use lib.IntN.{ℤ}
-use lib.ListN.{length}
-use Rattle.model.specs.Lists.{isIn, upFrom}
+use Rattle.model.specs.Lists.{isIn}
 use Rattle.model.specs.Model.{Words, scale, stateCount, togo, actionCount, action, options}
 use Rattle.model.specs.Questions.{bookNumber}
 use Rattle.model.specs.Policy.{Policy, onward}
 use Rattle.model.specs.Path.{byteAt}
-use Rattle.laws.specs.Members.{In, in-one, Every, every-in, isIn-in, in-isIn, T-true, true-T, false-T}
+use Rattle.laws.specs.Members.{In, in-one, Every, every-in, isIn-in, true-T}
 use Rattle.laws.specs.Policies.{IsPolicy, Reads, reads}
 use Rattle.laws.specs.First.{Lists, costFrom0, firstPolicy, is-policy}
 use Rattle.accepted.specs.Facts.{accepted}
 use Rattle.accepted.specs.Shape.{shape}
-use Rattle.masks.specs.Masks.{has, with, free}
+use Rattle.masks.specs.Masks.{with}
 use Rattle.masks.proofs.Free.{free-below}
 use Rattle.masks.proofs.Bars.{has-with, with-small, free-all}
-use Rattle.splits.specs.Parts.{without, without-in, part, split-lt, split-eq, split-gt, Reaches}
+use Rattle.splits.specs.Parts.{without, part, split-lt, split-eq, split-gt, Reaches}
 use Rattle.splits.specs.Kbest.{addChild, childrenFrom, childAt, children, child-lists}
 use Rattle.splits.specs.ChildCost.{child-front}
 use Rattle.stored.specs.Entry.{Entry}

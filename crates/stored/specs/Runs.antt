@@ -2,23 +2,23 @@
 -- Assumes nothing.
 use mathlib.Core.Path.{_≡_, refl, sym, ap, ap₂, _∙_, subst}
 use mathlib.Core.Bool.{Bool, true, false, not, _&&_, _||_}
-use mathlib.Core.Logic.{_⊎_, inl, inr}
+use mathlib.Core.Logic.{inl, inr}
 use mathlib.Core.List.{List, [], _∷_, map}
-use Prim.Native.Nat.{ℕ, zero, suc, _+_, _-_, _≤_, _<_}
+use Prim.Native.Nat.{ℕ, zero, suc, _-_, _<_}
 use native.Mathlib.Omega.{arith}
 use lib.IntN.{ℤ}
 use lib.Signed.{ltZ}
 use lib.ListN.{take}
-use Rattle.model.specs.Lists.{insert, sorted}
+use Rattle.model.specs.Lists.{insert}
 use Rattle.model.specs.Model.{Words, scale, stateCount, togo, action, options}
 use Rattle.model.specs.Questions.{bookNumber}
-use Rattle.model.specs.Policy.{Policy, policies, policiesFrom}
+use Rattle.model.specs.Policy.{Policy, policies}
 use Rattle.model.specs.Path.{policyCost}
 use Rattle.model.specs.Order.{lower, before, comesBefore, ranking, rankingCosts}
-use Rattle.laws.specs.Members.{In, Every, every-in}
+use Rattle.laws.specs.Members.{In, Every}
 use Rattle.laws.specs.Sorting.{sorted-same}
-use Rattle.laws.specs.First.{Lists, costFrom0, firstPolicy}
-use Rattle.accepted.specs.Shape.{shape, lists, policy-is}
+use Rattle.laws.specs.First.{Lists}
+use Rattle.accepted.specs.Shape.{shape, lists}
 use Rattle.accepted.specs.Demands.{cost-from, policies-are, bestPolicy, in-list}
 use Rattle.splits.specs.Search.{earlier, admit, run}
 use Rattle.splits.specs.Kbest.{children, the-best}

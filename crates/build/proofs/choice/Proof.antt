@@ -1,20 +1,29 @@
+-- One answer for each place of the state: before the state r, at it and after it.
+-- Assumes nothing.
+use mathlib.Core.Path.{sym, _∙_}
+use native.Mathlib.Omega.{arith}
+use Rattle.model.specs.Path.{byteAt}
+use Rattle.build.proofs.Split.{read-byte, split-before, split-here, split-after}
 use borrow.Author.Needs.{needs}
 use Rattle.build.proofs.choice.Statement.{statement}
 use Rattle.build.proofs.choice.Tie as tie
-use Rattle.build.proofs.choice.Reads as reads
-use Rattle.build.proofs.choice.Lts as lts
 
 shared-slice-read-result : tie.Need-shared-slice-read-result
-shared-slice-read-result c = search needs
+shared-slice-read-result c = c .before .before .pre .1 (c .before .if1 .taken)
 
 cast-result : tie.Need-cast-result
-cast-result c = search needs
+cast-result c = omega (arith, c .shared-slice-known .given (c .before .before .args .s))
 
 returns : tie.Need-returns
-returns c = search needs
+returns c =
+    let s = c .before .before in
+    read-byte (s .args .plan .now) (s .args .s) (s .pre .1 (c .before .if1 .taken))
+    ∙ sym (split-before (byteAt (s .args .plan .now)) (s .args .r) (s .args .c) _ (s .args .s) (c .before .if1 .taken))
 
 returns-2 : tie.Need-returns-2
-returns-2 c = search needs
+returns-2 c =
+    let s = c .before .before in
+    sym (split-here (byteAt (s .args .plan .now)) (s .args .r) (s .args .c) _ (s .args .s) (c .if2 .taken))
 
 mul-result : tie.Need-mul-result
 mul-result c = search needs
@@ -23,7 +32,9 @@ element-copy-out-result : tie.Need-element-copy-out-result
 element-copy-out-result c = search needs
 
 returns-3 : tie.Need-returns-3
-returns-3 c = search needs
+returns-3 c =
+    let s = c .before .before .before in
+    sym (split-after (byteAt (s .args .plan .now)) (s .args .r) (s .args .c) _ (s .args .s) (omega arith))
 
 pub choice-spec : {M : Type 1} → statement M
 choice-spec =

@@ -1,4 +1,6 @@
+use native.Mathlib.Omega.{arith}
 use borrow.Author.Needs.{needs}
+use Rattle.bytes_io.proofs.Numbers.{four-bytes}
 use Rattle.bytes_io.proofs.read4.Statement.{statement}
 use Rattle.bytes_io.proofs.read4.Tie as tie
 use Rattle.bytes_io.proofs.read4.Reads as reads
@@ -57,7 +59,9 @@ add-result-3 : tie.Need-add-result-3
 add-result-3 c = search needs
 
 returns : tie.Need-returns
-returns c = search needs
+returns c =
+    let s = c .before .before .before .before .before .before .before .before .before in
+    let e = four-bytes (s .args .r .now) (s .args .at) (omega arith) in (omega (arith, e), omega arith)
 
 pub read4-spec : {M : Type 1} → statement M
 read4-spec =

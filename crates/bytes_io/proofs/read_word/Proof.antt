@@ -1,4 +1,7 @@
+use mathlib.Core.Path.{ap, _∙_}
+use Rattle.book.proofs.Words.{read32}
 use borrow.Author.Needs.{needs}
+use Rattle.model.specs.Bytes.{signed}
 use Rattle.bytes_io.proofs.read_word.Statement.{statement}
 use Rattle.bytes_io.proofs.read_word.Tie as tie
 use Rattle.bytes_io.proofs.read_word.Reads as reads
@@ -13,7 +16,7 @@ to-signed-requires : tie.Need-to-signed-requires
 to-signed-requires c κs = search needs
 
 returns : tie.Need-returns
-returns c = search needs
+returns c = rw (read32 (c .to-signed .result) (c .to-signed .ok)) (c .to-signed .ensures ∙ ap signed (c .before .read4 .ensures .0))
 
 pub read-word-spec : {M : Type 1} → statement M
 read-word-spec = tie.close (tie.spec read4-requires to-signed-requires returns)

@@ -1,26 +1,51 @@
-use borrow.Author.Needs.{needs}
+-- Below 0, `-1 - x` is what the largest number of the width is above the complement.
+-- Assumes nothing.
+use mathlib.Core.Path.{_≡_}
+use mathlib.Core.Bool.{true}
+use native.Mathlib.Omega.{arith}
+use lib.IntN.{pos, negsuc, _-ℤ_}
+use lib.Signed.{mag, ltZ}
+use mir.Syntax.{w64}
+use mir.Val.{SFits}
+use mir.Facts.{toZ-ofZ}
+use Rattle.bytes_io.proofs.Numbers.{above, complement-neg, NotNegative, complement-pos}
 use Rattle.bytes_io.proofs.to_unsigned.Statement.{statement}
 use Rattle.bytes_io.proofs.to_unsigned.Tie as tie
-use Rattle.bytes_io.proofs.to_unsigned.Reads as reads
-use Rattle.bytes_io.proofs.to_unsigned.Lts as lts
+
+module _ (c : tie.Then1) where
+  negative : ltZ (c .before .args .x) (pos 0) ≡ true
+  negative = rw (toZ-ofZ (c .before .fits .x)) at (c .if1 .taken)
+
+  flip : negsuc 0 -ℤ c .before .args .x ≡ pos (mag (c .before .args .x))
+  flip = above (c .before .args .x) negative
+
+  fit : SFits w64 (pos (mag (c .before .args .x)))
+  fit = record { sfits = c .before .fits .x .sfits }
+
+plain : (c : tie.Else1) → NotNegative (c .before .args .most) (c .before .args .x)
+plain c = complement-pos (c .before .args .most) (c .before .args .x) (rw (toZ-ofZ (c .before .fits .x)) at (c .if1 .left))
 
 sub-result : tie.Need-sub-result
-sub-result c = search needs
+sub-result c = rw (toZ-ofZ (c .before .fits .x), flip c) (fit c)
 
 cast-result : tie.Need-cast-result
-cast-result c = search needs
+cast-result c =
+    simp (toZ-ofZ (c .before .fits .x), flip c, toZ-ofZ (fit c)) (tt, omega (arith, c .before .fits .x .sfits))
 
 sub-result-2 : tie.Need-sub-result-2
-sub-result-2 c = search needs
+sub-result-2 c = simp (toZ-ofZ (c .before .fits .x), flip c, toZ-ofZ (fit c)) (c .before .pre)
 
 returns : tie.Need-returns
-returns c = search needs
+returns c =
+    simp (toZ-ofZ (c .before .fits .x), flip c, toZ-ofZ (fit c)) (complement-neg (c .before .args .most) (c .before .args .x) (negative c))
 
 cast-result-2 : tie.Need-cast-result-2
-cast-result-2 c = search needs
+cast-result-2 c =
+    let p = plain c in
+    rw (toZ-ofZ (c .before .fits .x)) (p .sign, omega (arith, p .size, c .before .fits .x .sfits))
 
 returns-2 : tie.Need-returns-2
-returns-2 c = search needs
+returns-2 c = rw (toZ-ofZ (c .before .fits .x)) (plain c .is)
 
 pub to-unsigned-spec : {M : Type 1} → statement M
 to-unsigned-spec =

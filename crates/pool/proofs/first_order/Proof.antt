@@ -1,3 +1,18 @@
+-- The first i places hold the first i slots.
+-- Assumes nothing.
+use mathlib.Core.Path.{_≡_, refl, sym, ap, _∙_, subst}
+use mathlib.Core.Bool.{Bool, true, false}
+use mathlib.Core.List.{List, _++_, append-nil}
+use Prim.Native.Nat.{ℕ, _≤_, _<_, _+_, _*_, _-_}
+use native.Mathlib.Omega.{arith}
+use native.Mathlib.Numerals.{add-one}
+use lib.ListN.{length, length-drop, length-set, getD, set, take, drop}
+use lib.Seq.{paste, paste-zero, paste-suc, take-all, drop-length, length-take-le}
+use Rattle.model.specs.Lists.{upFrom}
+use native.Mathlib.Nat.{zero-add}
+use Rattle.pool.specs.Entries.{Slots}
+use Rattle.pool.proofs.Moves.{first-slots}
+use Rattle.pool.proofs.Lists.{front-more, copied-all, upFrom-long, upFrom-at}
 use borrow.Author.Needs.{needs}
 use Rattle.pool.proofs.first_order.Statement.{statement}
 use Rattle.pool.proofs.first_order.Tie as tie
@@ -6,16 +21,16 @@ use Rattle.pool.proofs.first_order.Lts as lts
 use Rattle.pool.proofs.zeros.Reads as zeros-reads
 
 abbrev Inv-loop : tie.InvT-loop
-Inv-loop order₀ i₀ order i = ?
+Inv-loop order₀ i₀ order i = (i ≤ 64) × (length order₀ ≡ 64) × (order ≡ take i (upFrom 0 64) ++ drop i order₀)
 
 abbrev μ-loop : tie.MeasureT-loop
-μ-loop order₀ i₀ order i = ?
+μ-loop order₀ i₀ order i = 64 - i
 
 zeros-requires : tie.Need-zeros-requires Inv-loop μ-loop
 zeros-requires c κs = search needs
 
 loop-holds : tie.Need-loop-holds Inv-loop μ-loop
-loop-holds c = search needs
+loop-holds c = (omega arith, c .zeros .ensures, refl)
 
 mul-order : tie.Need-mul-order Inv-loop μ-loop
 mul-order c = search needs
@@ -30,10 +45,21 @@ loop-less : tie.Need-loop-less Inv-loop μ-loop
 loop-less c = search needs
 
 loop-again : tie.Need-loop-again Inv-loop μ-loop
-loop-again c = search needs
+loop-again c =
+    let l = c .before in
+    ( omega arith
+    , l .loop .inv .1
+    , subst (λ (x : ℕ). set (l .loop .order) (l .loop .i) x ≡ take (l .loop .i + 1) (upFrom 0 64) ++ drop (l .loop .i + 1) (l .before .zeros .result))
+      (upFrom-at 0 64 (l .loop .i) (omega arith) ∙ zero-add (l .loop .i))
+      (rw (l .loop .inv .2)
+      (front-more (l .before .zeros .result) (upFrom 0 64) (l .loop .i) 0 (omega arith) (omega arith))))
 
 returns : tie.Need-returns Inv-loop μ-loop
-returns c = search needs
+returns c =
+    let l = c .before in
+    let e : l .loop .i ≡ 64 = omega arith in
+    subst Slots (sym
+    (l .loop .inv .2 ∙ copied-all (l .before .zeros .result) (upFrom 0 64) (l .loop .i) (omega arith) (omega (arith, upFrom-long 0 64)))) first-slots
 
 pub first-order-spec : {M : Type 1} → statement M
 first-order-spec =

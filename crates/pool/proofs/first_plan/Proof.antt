@@ -1,3 +1,17 @@
+-- The first i bytes are copied.
+-- Assumes nothing.
+use mathlib.Core.Path.{_≡_, refl, sym, ap, _∙_, subst}
+use mathlib.Core.Bool.{Bool, true, false}
+use mathlib.Core.List.{List, _++_, append-nil}
+use Prim.Native.Nat.{ℕ, _≤_, _<_, _+_, _*_, _-_}
+use native.Mathlib.Omega.{arith}
+use native.Mathlib.Numerals.{add-one}
+use lib.ListN.{length, length-drop, length-set, getD, set, take, drop}
+use lib.Seq.{paste, paste-zero, paste-suc, take-all, drop-length, length-take-le}
+use Rattle.pool.specs.Entries.{row}
+use Rattle.pool.proofs.Lists.{front-more, copied-all}
+use Rattle.pool.proofs.Rows.{row-long, row-at}
+use Rattle.pool.proofs.Moves.{slot-low}
 use borrow.Author.Needs.{needs}
 use Rattle.pool.proofs.first_plan.Statement.{statement}
 use Rattle.pool.proofs.first_plan.Tie as tie
@@ -5,19 +19,22 @@ use Rattle.pool.proofs.first_plan.Reads as reads
 use Rattle.pool.proofs.first_plan.Lts as lts
 
 abbrev Inv-loop : tie.InvT-loop
-Inv-loop s out₀ p base i₀ out i = ?
+Inv-loop s out₀ p base i₀ out i = (i ≤ s) × (length out ≡ length out₀) × (getD (p .order) 0 0 < 64) × (out ≡ take i (row s (p .plans) (getD (p .order) 0 0)) ++ drop i out₀)
 
 abbrev μ-loop : tie.MeasureT-loop
-μ-loop s out₀ p base i₀ out i = ?
+μ-loop s out₀ p base i₀ out i = s - i
 
 element-copy-out-base : tie.Need-element-copy-out-base Inv-loop μ-loop
 element-copy-out-base c = search needs
 
+low : (s : tie.Start Inv-loop μ-loop) → getD (s .args .t1 .order) 0 0 < 64
+low s = slot-low (s .pre .0 .slots) 0 (omega arith)
+
 mul-base : tie.Need-mul-base Inv-loop μ-loop
-mul-base c = search needs
+mul-base c = omega (arith, low (c .before))
 
 loop-holds : tie.Need-loop-holds Inv-loop μ-loop
-loop-holds c = search needs
+loop-holds c = (omega arith, refl, low (c .before), refl)
 
 add-out : tie.Need-add-out Inv-loop μ-loop
 add-out c = search needs
@@ -35,13 +52,27 @@ loop-less : tie.Need-loop-less Inv-loop μ-loop
 loop-less c = search needs
 
 loop-again : tie.Need-loop-again Inv-loop μ-loop
-loop-again c = search needs
+loop-again c =
+    let l = c .before .before in
+    let s = l .before .before in
+    let p = s .args .t1 in
+    let long = row-long (s .args .s) (p .plans) (getD (p .order) 0 0) (s .pre .0 .plans-long) (l .loop .inv .2) (s .pre .3) in
+    ( omega arith
+    , simp length-set (l .loop .inv .1)
+    , l .loop .inv .2
+    , rw (← row-at (s .args .s) (p .plans) (getD (p .order) 0 0) (l .loop .i) (omega arith), l .loop .inv .3)
+      (front-more (s .args .out .now) (row (s .args .s) (p .plans) (getD (p .order) 0 0)) (l .loop .i) 0 (omega arith) (omega arith)))
 
 same-length : tie.Need-same-length Inv-loop μ-loop
-same-length c = search needs
+same-length c = c .before .loop .inv .1
 
 returns : tie.Need-returns Inv-loop μ-loop
-returns c = search needs
+returns c =
+    let l = c .before in
+    let s = l .before .before in
+    let p = s .args .t1 in
+    let long = row-long (s .args .s) (p .plans) (getD (p .order) 0 0) (s .pre .0 .plans-long) (l .loop .inv .2) (s .pre .3) in
+    l .loop .inv .3 ∙ copied-all (s .args .out .now) (row (s .args .s) (p .plans) (getD (p .order) 0 0)) (l .loop .i) (omega arith) (omega arith)
 
 pub first-plan-spec : {M : Type 1} → statement M
 first-plan-spec =

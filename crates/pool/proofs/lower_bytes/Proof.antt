@@ -1,3 +1,17 @@
+-- The plans agree on the first i bytes.
+-- Assumes nothing.
+use mathlib.Core.Path.{_≡_, refl, sym, ap, _∙_, subst}
+use mathlib.Core.Bool.{Bool, true, false}
+use mathlib.Core.List.{List, _++_, append-nil}
+use Prim.Native.Nat.{ℕ, _≤_, _<_, _+_, _*_, _-_}
+use native.Mathlib.Omega.{arith}
+use native.Mathlib.Numerals.{add-one}
+use lib.Dec.{ltb}
+use lib.ListN.{length, length-drop, length-set, getD, set, take, drop}
+use lib.Seq.{paste, paste-zero, paste-suc, take-all, drop-length, length-take-le}
+use Rattle.model.specs.Order.{lower}
+use Rattle.pool.specs.Entries.{row}
+use Rattle.pool.proofs.Rows.{row-long, row-at, lower-equal, lower-differ, lower-end}
 use borrow.Author.Needs.{needs}
 use Rattle.pool.proofs.lower_bytes.Statement.{statement}
 use Rattle.pool.proofs.lower_bytes.Tie as tie
@@ -5,16 +19,17 @@ use Rattle.pool.proofs.lower_bytes.Reads as reads
 use Rattle.pool.proofs.lower_bytes.Lts as lts
 
 abbrev Inv-loop : tie.InvT-loop
-Inv-loop plans j s plan base i₀ i = ?
+Inv-loop plans j s plan base i₀ i = (i ≤ s) × (lower plan (row s plans j) ≡ lower (drop i plan) (drop i (row s plans j)))
 
 abbrev μ-loop : tie.MeasureT-loop
-μ-loop plans j s plan base i₀ i = ?
+μ-loop plans j s plan base i₀ i = s - i
 
 mul-base : tie.Need-mul-base Inv-loop μ-loop
 mul-base c = search needs
 
 loop-holds : tie.Need-loop-holds Inv-loop μ-loop
-loop-holds c = search needs
+loop-holds c =
+    (omega arith, refl)
 
 shared-slice-read-a : tie.Need-shared-slice-read-a Inv-loop μ-loop
 shared-slice-read-a c = search needs
@@ -25,8 +40,28 @@ add-b c = search needs
 element-copy-out-b : tie.Need-element-copy-out-b Inv-loop μ-loop
 element-copy-out-b c = search needs
 
+-- the row that the plan is compared with
+module _ (s : tie.Start Inv-loop μ-loop) where
+  abbrev r : List ℕ
+  r = row (s .args .s) (s .args .plans .now) (s .args .j)
+
+  inside : (i : ℕ) → i < s .args .s → i < length r
+  inside i h =
+      omega (arith, row-long (s .args .s) (s .args .plans .now) (s .args .j) (s .pre .0) (s .pre .1) (s .pre .2))
+
+  at : (i : ℕ) → i < s .args .s → getD r i 0 ≡ getD (s .args .plans .now) (s .args .j * 64 + i) 0
+  at i h = row-at (s .args .s) (s .args .plans .now) (s .args .j) i h
+
 returns : tie.Need-returns Inv-loop μ-loop
-returns c = search needs
+returns c =
+    let e = c .before in
+    let l = e .before .before .before in
+    let s = l .before in
+    sym
+    (l .loop .inv .1
+    ∙ lower-differ (s .args .plan .now) (r s) (l .loop .i) (omega arith) (inside s (l .loop .i) (omega arith))
+    (λ q. c .if1 .taken (q ∙ at s (l .loop .i) (omega arith)))
+    ∙ ap (ltb (getD (s .args .plan .now) (l .loop .i) 0)) (at s (l .loop .i) (omega arith)))
 
 add-i : tie.Need-add-i Inv-loop μ-loop
 add-i c = search needs
@@ -35,10 +70,20 @@ loop-less : tie.Need-loop-less Inv-loop μ-loop
 loop-less c = search needs
 
 loop-again : tie.Need-loop-again Inv-loop μ-loop
-loop-again c = search needs
+loop-again c =
+    let e = c .before in
+    let l = e .before .before .before in
+    let s = l .before in
+    ( omega arith
+    , l .loop .inv .1
+      ∙ lower-equal (s .args .plan .now) (r s) (l .loop .i) (omega arith) (inside s (l .loop .i) (omega arith))
+      (c .if1 .left ∙ sym (at s (l .loop .i) (omega arith))))
 
 returns-2 : tie.Need-returns-2 Inv-loop μ-loop
-returns-2 c = search needs
+returns-2 c =
+    let l = c .before in
+    let s = l .before in
+    sym (l .loop .inv .1 ∙ lower-end (s .args .plan .now) (drop (l .loop .i) (r s)) (l .loop .i) (omega arith))
 
 pub lower-bytes-spec : {M : Type 1} → statement M
 lower-bytes-spec =

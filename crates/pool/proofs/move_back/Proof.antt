@@ -1,3 +1,15 @@
+-- The first t places hold the slots after the first.
+-- Assumes nothing.
+use mathlib.Core.Path.{_≡_, refl, sym, ap, _∙_, subst}
+use mathlib.Core.Bool.{Bool, true, false}
+use mathlib.Core.List.{List, _++_, append-nil}
+use Prim.Native.Nat.{ℕ, _≤_, _<_, _+_, _*_, _-_}
+use native.Mathlib.Omega.{arith}
+use native.Mathlib.Numerals.{add-one}
+use lib.ListN.{length, length-drop, length-set, getD, set, take, drop}
+use lib.Seq.{paste, paste-zero, paste-suc, take-all, drop-length, length-take-le}
+use Rattle.pool.specs.Entries.{movedBack}
+use Rattle.pool.proofs.Moves.{movedTo, to-more, to-end}
 use borrow.Author.Needs.{needs}
 use Rattle.pool.proofs.move_back.Statement.{statement}
 use Rattle.pool.proofs.move_back.Tie as tie
@@ -5,10 +17,10 @@ use Rattle.pool.proofs.move_back.Reads as reads
 use Rattle.pool.proofs.move_back.Lts as lts
 
 abbrev Inv-loop : tie.InvT-loop
-Inv-loop order₀ n slot last t₀ order t = ?
+Inv-loop order₀ n slot last t₀ order t = (t ≤ last) × (order ≡ movedTo order₀ t)
 
 abbrev μ-loop : tie.MeasureT-loop
-μ-loop order₀ n slot last t₀ order t = ?
+μ-loop order₀ n slot last t₀ order t = last - t
 
 element-copy-out-slot : tie.Need-element-copy-out-slot Inv-loop μ-loop
 element-copy-out-slot c = search needs
@@ -17,7 +29,7 @@ sub-last : tie.Need-sub-last Inv-loop μ-loop
 sub-last c = search needs
 
 loop-holds : tie.Need-loop-holds Inv-loop μ-loop
-loop-holds c = search needs
+loop-holds c = (omega arith, refl)
 
 add-order : tie.Need-add-order Inv-loop μ-loop
 add-order c = search needs
@@ -41,7 +53,10 @@ loop-less : tie.Need-loop-less Inv-loop μ-loop
 loop-less c = search needs
 
 loop-again : tie.Need-loop-again Inv-loop μ-loop
-loop-again c = search needs
+loop-again c =
+    let l = c .before .before in
+    let s = l .before .before in
+    (omega arith, rw (l .loop .inv .1) (to-more (s .args .order .now) (l .loop .t) (omega arith)))
 
 mul-order-3 : tie.Need-mul-order-3 Inv-loop μ-loop
 mul-order-3 c = search needs
@@ -50,7 +65,11 @@ element-write-order-2 : tie.Need-element-write-order-2 Inv-loop μ-loop
 element-write-order-2 c = search needs
 
 returns : tie.Need-returns Inv-loop μ-loop
-returns c = search needs
+returns c =
+    let l = c .before in
+    let s = l .before .before in
+    let e : l .loop .t ≡ s .args .n - 1 = omega arith in
+    rw (l .loop .inv .1, e) (to-end (s .args .order .now) (s .args .n) (omega arith) (omega arith))
 
 pub move-back-spec : {M : Type 1} → statement M
 move-back-spec =

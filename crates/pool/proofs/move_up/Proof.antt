@@ -1,3 +1,15 @@
+-- The slots from place t on have moved.
+-- Assumes nothing.
+use mathlib.Core.Path.{_≡_, refl, sym, ap, _∙_, subst}
+use mathlib.Core.Bool.{Bool, true, false}
+use mathlib.Core.List.{List, _++_, append-nil}
+use Prim.Native.Nat.{ℕ, _≤_, _<_, _+_, _*_, _-_}
+use native.Mathlib.Omega.{arith}
+use native.Mathlib.Numerals.{add-one}
+use lib.ListN.{length, length-drop, length-set, getD, set, take, drop}
+use lib.Seq.{paste, paste-zero, paste-suc, take-all, drop-length, length-take-le}
+use Rattle.pool.specs.Entries.{movedUp}
+use Rattle.pool.proofs.Moves.{movedFrom, from-start, from-more, from-end}
 use borrow.Author.Needs.{needs}
 use Rattle.pool.proofs.move_up.Statement.{statement}
 use Rattle.pool.proofs.move_up.Tie as tie
@@ -5,10 +17,10 @@ use Rattle.pool.proofs.move_up.Reads as reads
 use Rattle.pool.proofs.move_up.Lts as lts
 
 abbrev Inv-loop : tie.InvT-loop
-Inv-loop order₀ i n slot t₀ order t = ?
+Inv-loop order₀ i n slot t₀ order t = (i ≤ t) × (t ≤ n) × (order ≡ movedFrom order₀ n t)
 
 abbrev μ-loop : tie.MeasureT-loop
-μ-loop order₀ i n slot t₀ order t = ?
+μ-loop order₀ i n slot t₀ order t = t
 
 mul-slot : tie.Need-mul-slot Inv-loop μ-loop
 mul-slot c = search needs
@@ -17,7 +29,7 @@ element-copy-out-slot : tie.Need-element-copy-out-slot Inv-loop μ-loop
 element-copy-out-slot c = search needs
 
 loop-holds : tie.Need-loop-holds Inv-loop μ-loop
-loop-holds c = search needs
+loop-holds c = (omega arith, omega arith, from-start (c .before .args .order .now) (c .before .args .n))
 
 sub-order : tie.Need-sub-order Inv-loop μ-loop
 sub-order c = search needs
@@ -41,7 +53,12 @@ loop-less : tie.Need-loop-less Inv-loop μ-loop
 loop-less c = search needs
 
 loop-again : tie.Need-loop-again Inv-loop μ-loop
-loop-again c = search needs
+loop-again c =
+    let l = c .before .before in
+    let s = l .before .before in
+    ( omega arith
+    , omega arith
+    , rw (l .loop .inv .2) (from-more (s .args .order .now) (s .args .n) (l .loop .t) (omega arith) (omega arith) (omega arith)))
 
 mul-order-3 : tie.Need-mul-order-3 Inv-loop μ-loop
 mul-order-3 c = search needs
@@ -50,7 +67,11 @@ element-write-order-2 : tie.Need-element-write-order-2 Inv-loop μ-loop
 element-write-order-2 c = search needs
 
 returns : tie.Need-returns Inv-loop μ-loop
-returns c = search needs
+returns c =
+    let l = c .before in
+    let s = l .before .before in
+    let e : l .loop .t ≡ s .args .i = omega arith in
+    rw (l .loop .inv .2, e) (from-end (s .args .order .now) (s .args .n) (s .args .i) (omega arith) (omega arith))
 
 pub move-up-spec : {M : Type 1} → statement M
 move-up-spec =

@@ -1,3 +1,13 @@
+-- The first i bytes are written.
+-- Assumes nothing.
+use mathlib.Core.Path.{_≡_, refl, sym, ap, _∙_, subst}
+use mathlib.Core.Bool.{Bool, true, false}
+use mathlib.Core.List.{List, _++_, append-nil}
+use Prim.Native.Nat.{ℕ, _≤_, _<_, _+_, _*_, _-_}
+use native.Mathlib.Omega.{arith}
+use native.Mathlib.Numerals.{add-one}
+use lib.ListN.{length, length-drop, length-set, getD, set, take, drop}
+use lib.Seq.{paste, paste-zero, paste-suc, take-all, drop-length, length-take-le}
 use borrow.Author.Needs.{needs}
 use Rattle.pool.proofs.write_row.Statement.{statement}
 use Rattle.pool.proofs.write_row.Tie as tie
@@ -5,16 +15,16 @@ use Rattle.pool.proofs.write_row.Reads as reads
 use Rattle.pool.proofs.write_row.Lts as lts
 
 abbrev Inv-loop : tie.InvT-loop
-Inv-loop plans₀ j s plan base i₀ plans i = ?
+Inv-loop plans₀ j s plan base i₀ plans i = (i ≤ s) × (plans ≡ paste plans₀ (j * 64) plan i)
 
 abbrev μ-loop : tie.MeasureT-loop
-μ-loop plans₀ j s plan base i₀ plans i = ?
+μ-loop plans₀ j s plan base i₀ plans i = s - i
 
 mul-base : tie.Need-mul-base Inv-loop μ-loop
 mul-base c = search needs
 
 loop-holds : tie.Need-loop-holds Inv-loop μ-loop
-loop-holds c = search needs
+loop-holds c = (omega arith, paste-zero (c .args .plans .now) (c .args .j * 64) (c .args .plan .now))
 
 shared-slice-read-plans : tie.Need-shared-slice-read-plans Inv-loop μ-loop
 shared-slice-read-plans c = search needs
@@ -32,10 +42,16 @@ loop-less : tie.Need-loop-less Inv-loop μ-loop
 loop-less c = search needs
 
 loop-again : tie.Need-loop-again Inv-loop μ-loop
-loop-again c = search needs
+loop-again c =
+    let l = c .before .before in
+    let s = l .before .args in
+    ( omega arith
+    , rw (l .loop .inv .1, add-one) (paste-suc (s .plans .now) (s .j * 64) (s .plan .now) (l .loop .i) 0 (omega arith) (omega arith)))
 
 returns : tie.Need-returns Inv-loop μ-loop
-returns c = search needs
+returns c =
+    let e : c .before .loop .i ≡ c .before .before .args .s = omega arith in
+    rw e at (c .before .loop .inv .1)
 
 pub write-row-spec : {M : Type 1} → statement M
 write-row-spec =

@@ -1,0 +1,217 @@
+-- y is spread over the first i transitions.
+-- Assumes nothing.
+use mathlib.Core.Path.{_≡_, refl, ap}
+use Prim.Native.Nat.{ℕ, _+_, _*_, _-_, _≤_, _<_}
+use native.Mathlib.Omega.{arith}
+use lib.IntN.{natAbs}
+use lib.ListN.{length, getD, set}
+use Rattle.model.specs.Model.{Words, word, branches, action}
+use Rattle.questions.specs.Sizes.{Sized}
+use Rattle.accepted.specs.Facts.{accepted}
+use Rattle.book.proofs.Columns.{branches-are}
+use Rattle.splits.specs.Reach.{spread}
+use Rattle.costs.specs.Terms.{ActionAt}
+use Rattle.costs.proofs.Actions.{inside-lines}
+use Rattle.reach.specs.Weights.{weightAt}
+use Rattle.reach.proofs.Spreading.{ToSpread, all-to-spread, next-low, sum-small, spread-next, all-spread}
+use borrow.Author.Needs.{needs}
+use Rattle.reach.proofs.spread_action.Statement.{statement}
+use Rattle.reach.proofs.spread_action.Tie as tie
+
+abbrev Inv-loop : tie.InvT-loop
+Inv-loop b x p c y w₀ line r at l base i₀ w i =
+    (i ≤ r)
+    × (at + l + r ≤ length b)
+    × (length b ≤ 4172)
+    × ToSpread b at l base r y i (spread y (action b p c .transitions) (weightAt w₀)) w
+
+abbrev μ-loop : tie.MeasureT-loop
+μ-loop b x p c y w₀ line r at l base i₀ w i = r - i
+
+sizes : (s : tie.Start Inv-loop μ-loop) → Sized (s .args .b .now)
+sizes s = accepted (s .args .b .now) (s .pre .0) .sizes
+
+add-line : tie.Need-add-line Inv-loop μ-loop
+add-line c = let z = sizes (c .before) in omega arith
+
+add-line-2 : tie.Need-add-line-2 Inv-loop μ-loop
+add-line-2 c = let z = sizes (c .before .before) in omega arith
+
+mul-action-line : tie.Need-mul-action-line Inv-loop μ-loop
+mul-action-line c = let z = sizes (c .before .before) in omega arith
+
+element-copy-out-action-line : tie.Need-element-copy-out-action-line Inv-loop μ-loop
+element-copy-out-action-line c = let z = sizes (c .before .before) in omega arith
+
+action-line-requires : tie.Need-action-line-requires Inv-loop μ-loop
+action-line-requires c κs =
+    let s = c .before .before .before in
+    (s .pre .0, s .pre .1, s .pre .3, s .pre .2 .line (s .args .p) (s .pre .3), omega arith)
+
+-- at the action's first line
+module _ (c : tie.After-action-line Inv-loop μ-loop) where
+  abbrev s : tie.Start Inv-loop μ-loop
+  s = c .before .before .before .before
+
+  abbrev ws : Words
+  ws = s .args .b .now
+
+  here : ActionAt ws (s .args .p) (s .args .c) (c .action-line .result)
+  here = record { state = s .pre .3; action = s .pre .4; line-is = c .action-line .ensures }
+
+  -- the words of its lines are there
+  inside : 4 + s .args .z .h + s .args .z .s + c .action-line .result + 1 + s .args .z .l + branches ws (c .action-line .result) ≤ length ws
+  inside =
+      let z = sizes s in
+      omega (arith, inside-lines ws (s .pre .0) (s .args .z) (s .pre .1) (s .args .p) (s .args .c) (c .action-line .result) here)
+
+add-line-3 : tie.Need-add-line-3 Inv-loop μ-loop
+add-line-3 c = let z = sizes (s c) in omega (arith, inside c)
+
+size-at-requires : tie.Need-size-at-requires Inv-loop μ-loop
+size-at-requires c κs = omega (arith, inside c)
+
+add-at : tie.Need-add-at Inv-loop μ-loop
+add-at c = let z = sizes (s (c .before)) in omega (arith, inside (c .before))
+
+add-base : tie.Need-add-base Inv-loop μ-loop
+add-base c = let z = sizes (s (c .before)) in omega arith
+
+mul-base : tie.Need-mul-base Inv-loop μ-loop
+mul-base c = let z = sizes (s (c .before)) in omega arith
+
+element-copy-out-base : tie.Need-element-copy-out-base Inv-loop μ-loop
+element-copy-out-base c = let z = sizes (s (c .before)) in omega arith
+
+loop-holds : tie.Need-loop-holds Inv-loop μ-loop
+loop-holds c =
+    let r = c .before .size-at in
+    let a = c .before .before in
+    let g = s a .args in
+    let z = sizes (s a) in
+    let r-is : r .result ≡ branches (ws a) (a .action-line .result)
+    = branches-are (ws a) (g .z) (s a .pre .1) (a .action-line .result) (r .result) (r .ensures .is) in (
+      omega arith,
+      omega (arith, inside a),
+      omega arith,
+      all-to-spread (ws a) (s a .pre .0) (g .z) (s a .pre .1) (g .p) (g .c) (a .action-line .result) (here a) _ (r .result)
+          (getD (g .x .now) (64 + g .p) 0) (g .y) (g .w .now) refl r-is (s a .pre .2 .base (g .p) (s a .pre .3)) (s a .pre .5) (s a .pre .6),
+    )
+
+add-size-at : tie.Need-add-size-at Inv-loop μ-loop
+add-size-at c = omega arith
+
+size-at-requires-2 : tie.Need-size-at-requires-2 Inv-loop μ-loop
+size-at-requires-2 c κs = omega arith
+
+-- at the turn of transition i
+module _ (c : tie.After-size-at2 Inv-loop μ-loop) where
+  abbrev l : tie.At-loop Inv-loop μ-loop
+  l = c .before .before
+
+  abbrev a : tie.After-action-line Inv-loop μ-loop
+  a = l .before .before .before
+
+  abbrev base : ℕ
+  base = getD (s a .args .x .now) (64 + s a .args .p) 0
+
+  -- the next state, as it was read
+  abbrev q : ℕ
+  q = base + c .size-at2 .result
+
+  q-is : q ≡ base + natAbs (word (ws a) (4 + s a .args .z .h + s a .args .z .s + a .action-line .result + 1 + l .loop .i))
+  q-is = ap (λ (n : ℕ). base + n) (c .size-at2 .ensures .is)
+
+  low : q < 64
+  low = next-low (l .loop .inv .3) (c .before .loop-test .taken) q q-is
+
+add-q : tie.Need-add-q Inv-loop μ-loop
+add-q c = omega (arith, low c)
+
+add-size-at-2 : tie.Need-add-size-at-2 Inv-loop μ-loop
+add-size-at-2 c = omega arith
+
+add-size-at-3 : tie.Need-add-size-at-3 Inv-loop μ-loop
+add-size-at-3 c = omega arith
+
+size-at-requires-3 : tie.Need-size-at-requires-3 Inv-loop μ-loop
+size-at-requires-3 c κs = omega arith
+
+mul-w : tie.Need-mul-w Inv-loop μ-loop
+mul-w c = omega (arith, low (c .before))
+
+element-copy-out-w : tie.Need-element-copy-out-w Inv-loop μ-loop
+element-copy-out-w c = low (c .before)
+
+small : (c : tie.After-size-at3 Inv-loop μ-loop) → let d = c .before in
+    getD (l d .loop .w) (q d) 0 + s (a d) .args .y * c .size-at3 .result ≤ 10000000000000000
+small c =
+    let d = c .before in
+    sum-small (l d .loop .inv .3) (d .before .loop-test .taken) (q d) (q-is d) (c .size-at3 .result) (c .size-at3 .ensures .is)
+
+mul-w-2 : tie.Need-mul-w-2 Inv-loop μ-loop
+mul-w-2 c = omega (arith, small (c .before))
+
+add-w : tie.Need-add-w Inv-loop μ-loop
+add-w c = omega (arith, small (c .before))
+
+mul-w-3 : tie.Need-mul-w-3 Inv-loop μ-loop
+mul-w-3 c = omega (arith, low (c .before .before))
+
+element-write-w : tie.Need-element-write-w Inv-loop μ-loop
+element-write-w c = low (c .before .before)
+
+add-i : tie.Need-add-i Inv-loop μ-loop
+add-i c = omega arith
+
+loop-less : tie.Need-loop-less Inv-loop μ-loop
+loop-less c = omega arith
+
+loop-again : tie.Need-loop-again Inv-loop μ-loop
+loop-again c =
+    let k = c .before .size-at3 in
+    let d = c .before .before in
+    let i = l d .loop .inv in
+    (omega arith, i .1, i .2, spread-next (i .3) (d .before .loop-test .taken) (q d) (q-is d) (k .result) (k .ensures .is))
+
+returns : tie.Need-returns Inv-loop μ-loop
+returns c =
+    let l = c .before in
+    let a = l .before .before .before in
+    let g = s a .args in
+    all-spread (l .loop .inv .3) (c .loop-test .left)
+
+pub spread-action-spec : {M : Type 1} → statement M
+spread-action-spec =
+    tie.close
+    (tie.spec
+    Inv-loop
+    μ-loop
+    add-line
+    add-line-2
+    mul-action-line
+    element-copy-out-action-line
+    action-line-requires
+    add-line-3
+    size-at-requires
+    add-at
+    add-base
+    mul-base
+    element-copy-out-base
+    loop-holds
+    add-size-at
+    size-at-requires-2
+    add-q
+    add-size-at-2
+    add-size-at-3
+    size-at-requires-3
+    mul-w
+    element-copy-out-w
+    mul-w-2
+    add-w
+    mul-w-3
+    element-write-w
+    add-i
+    loop-less
+    loop-again
+    returns)
