@@ -1,18 +1,18 @@
 -- Numbers as bytes: what is written reads back, and what is read is what would be written.
 -- Assumes nothing.
 use mathlib.Core.Path.{_≡_, refl, sym, ap, _∙_}
-use mathlib.Core.Bool.{Bool, true, false, cond}
+use mathlib.Core.Bool.{Bool, true, false, cond, _&&_}
 use mathlib.Core.List.{List, [], _∷_, _++_, append-assoc}
 use Prim.Native.Nat.{ℕ, zero, suc, _+_, _*_, _-_, _^_, _/_, _%_, _≤_, _<_}
 use native.Mathlib.Nat.{pow-suc, div-lt-iff-lt-mul, mod-add-div, suc-inj, zero-add}
 use native.Mathlib.Omega.{arith}
 use borrow.Author.Tests.{lt-ltb, le-ltb, ltb-true, ltb-false}
-use lib.Dec.{T, ltb}
+use lib.Dec.{T, ltb, eqb}
 use lib.IntN.{ℤ, pos, negsuc, natAbs, _-ℤ_}
 use lib.Signed.{mag, ltZ, nonNeg}
 use lib.ListN.{length, take, drop, getD, length-append}
 use lib.Seq.{length-take-le, take-at, drop-at, drop-drop}
-use Rattle.model.specs.Lists.{forEach}
+use Rattle.model.specs.Lists.{forEach, same}
 use Rattle.model.specs.Bytes.{bytes, signedBytes, fromBytes, signed, wordsOf}
 use Rattle.laws.specs.Members.{In, Every}
 use Rattle.bytes_io.specs.Slices.{complement}
@@ -44,6 +44,11 @@ read-bytes (suc n) x h =
 -- one byte from the front
 pub bytes-step : (i n y : ℕ) → i < n → bytes (n - i) y ≡ y % 256 ∷ bytes (n - (i + 1)) (y / 256)
 bytes-step i n y h = let k : n - i ≡ suc (n - (i + 1)) = omega arith in rw k
+
+pub same-low-step : (r : List ℕ) (at i n y : ℕ) → i < n → at + n ≤ length r
+    → same (take (n - i) (drop (at + i) r)) (bytes (n - i) y)
+    ≡ (eqb (getD r (at + i) 0) (y % 256) && same (take (n - (i + 1)) (drop (at + (i + 1)) r)) (bytes (n - (i + 1)) (y / 256)))
+same-low-step r at i n y h k = rw (part-step r i n (at + i) (at + (i + 1)) 0 h (omega arith) (omega arith), bytes-step i n y h)
 
 -- a list of bytes
 abbrev pub Bytes : List ℕ → Type 0

@@ -1,16 +1,17 @@
 -- Parts of a slice, written or compared one after another.
 -- Assumes nothing.
 use mathlib.Core.Path.{_≡_, refl, sym, ap, _∙_}
-use mathlib.Core.Bool.{_&&_}
+use mathlib.Core.Bool.{true, _&&_}
 use mathlib.Core.List.{List, [], _∷_, _++_, append-assoc}
 use Prim.Native.Nat.{ℕ, zero, suc, _+_, _*_, _-_, _≤_, _<_}
-use native.Mathlib.Nat.{add-assoc, mul-suc, mul-le-mul-left}
+use native.Mathlib.Nat.{zero-add, add-assoc, mul-zero, mul-suc, mul-le-mul-left}
 use native.Mathlib.Numerals.{add-one}
 use native.Mathlib.Omega.{arith}
+use lib.Dec.{eqb}
 use lib.ListN.{length, take, drop, getD, set, length-append, length-drop}
 use lib.Seq.{length-take-le, take-at, drop-at, drop-drop, drop-cons, set-split, append-snoc, paste-zero, take-add}
 use Rattle.model.specs.Lists.{forEach, same}
-use Rattle.model.specs.Bytes.{fromBytes, signed, wordsOf}
+use Rattle.model.specs.Calls.{over}
 use Rattle.bytes_io.specs.Slices.{written}
 use Rattle.bytes_io.proofs.Same.{same-++}
 
@@ -22,6 +23,9 @@ module _ {A : Type 0} where
 
   pub set-written : (o : List A) (at : ℕ) (a : A) → at < length o → set o at a ≡ written o at 1 (a ∷ [])
   set-written o at a h = rw (set-split o at a h, add-one) (sym (append-snoc (take at o) a (drop (suc at) o)))
+
+  pub written-front : (o : List A) (n : ℕ) (xs : List A) → length xs ≡ n → written o 0 n xs ≡ over xs o
+  written-front o n xs e = rw (e, zero-add n)
 
   module _ (o : List A) (at m : ℕ) (xs : List A) (e : length xs ≡ m) (h : at + m ≤ length o) where
     head : length (take at o ++ xs) ≡ at + m
@@ -61,12 +65,28 @@ module _ {A : Type 0} where
       let k : n - i ≡ suc (n - (i + 1)) = omega arith in
       rw (k, drop-cons xs p d l, e, add-one p)
 
+pub same-bytes-step : (r : List ℕ) (at : ℕ) (src : List ℕ) (i n : ℕ) → i < n → at + n ≤ length r → n ≤ length src
+    → same (take (n - i) (drop (at + i) r)) (take (n - i) (drop i src))
+    ≡ (eqb (getD r (at + i) 0) (getD src i 0) && same (take (n - (i + 1)) (drop (at + (i + 1)) r)) (take (n - (i + 1)) (drop (i + 1) src)))
+same-bytes-step r at src i n h k l =
+    rw (part-step r i n (at + i) (at + (i + 1)) 0 h (omega arith) (omega arith), part-step src i n i (i + 1) 0 h (omega arith) refl)
+
 -- ---- numbers of w bytes, one for each element
 
 module _ {A : Type 0} (f : A → List ℕ) (xs : List A) (k : ℕ) where
   -- those of the elements from index i on, up to index k
   abbrev pub rest : ℕ → List ℕ
   rest i = forEach f (take (k - i) (drop i xs))
+
+  module _ (w i : ℕ) (h : k ≤ i) where
+    none : k - i ≡ 0
+    none = omega arith
+
+    pub write-end : (o : List ℕ) (p : ℕ) → written o p (w * (k - i)) (rest i) ≡ o
+    write-end o p = rw (none, mul-zero w) (written-none o p)
+
+    pub same-end : (r : List ℕ) (p : ℕ) → same (take (w * (k - i)) (drop p r)) (rest i) ≡ true
+    same-end r p = rw (none, mul-zero w)
 
 module _ {A : Type 0} (w : ℕ) (f : A → List ℕ) (sized : (a : A) → length (f a) ≡ w) (xs : List A) (d : A) (i k : ℕ) (h : i < k) (l : k ≤ length xs) where
   rest-step : rest f xs k i ≡ f (getD xs i d) ++ rest f xs k (i + 1)

@@ -2,6 +2,7 @@
 -- Assumes nothing.
 use mathlib.Core.Path.{_≡_}
 use mathlib.Core.Bool.{Bool, cond, not, _&&_, _||_}
+use mathlib.Core.Logic.{_⊎_}
 use mathlib.Core.List.{List, [], _∷_, _++_, map}
 use Prim.Native.Nat.{ℕ, suc, _+_, _*_, _-_, _≤_, _<_}
 use lib.IntN.{ℤ, pos}
@@ -66,6 +67,10 @@ firstYes test [] = 0
 firstYes test (x ∷ xs) = cond (test x) 0 (suc (firstYes test xs))
 
 -- ---- changes of the order of the slots
+
+-- where n wait, place r holds the first free slot, or the last of k
+abbrev pub Spare : ℕ → ℕ → ℕ → Type 0
+Spare r n k = (r ≡ n) ⊎ ((r + 1 ≡ n) × (n ≡ k))
 
 -- slot n goes to place i, and those from i on make room
 abbrev pub movedUp : ℕ → ℕ → List ℕ → List ℕ

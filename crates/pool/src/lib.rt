@@ -7,7 +7,7 @@ ghost use lib.ListN.{length, take};
 ghost use lib.Seq.{paste};
 ghost use Rattle.model.specs.Lists.{insert};
 ghost use Rattle.model.specs.Order.{lower};
-ghost use Rattle.pool.specs.Entries.{row, firstEntry, entries, Slots, Formed, earlierEntry, earlierThan, firstYes, movedUp, movedBack};
+ghost use Rattle.pool.specs.Entries.{row, firstEntry, entries, Slots, Formed, earlierEntry, earlierThan, firstYes, Spare, movedUp, movedBack};
 
 pub struct Pool {
     // by slot
@@ -147,6 +147,17 @@ fn move_back(order: &mut [usize; 64], n: usize)
     order[last] = slot;
 }
 
+// The place of the slot to fill where n wait: that of the first free slot, or the last of k, whose candidate is let go.
+fn spare_place(n: usize, k: usize) -> usize
+    requires { ⌜ (1 ≤ k) × (n ≤ k) ⌝ }
+    ensures { λ r. ⌜ (r < k) × Spare r n k ⌝ }
+{
+    if n < k {
+        return n;
+    }
+    k - 1
+}
+
 // The candidate goes in front of the first that it comes before, or to the end. No more than k are kept.
 pub fn insert(p: Pool, k: usize, s: usize, cost: i64, plan: &[u8], split: usize, mask: u8) -> Pool
     requires { ⌜ Formed p × (1 ≤ s) × (s ≤ 64) × (1 ≤ k) × (k ≤ 64) × (p .count ≤ k) × (length (now plan) ≡ s) ⌝ }
@@ -158,18 +169,15 @@ pub fn insert(p: Pool, k: usize, s: usize, cost: i64, plan: &[u8], split: usize,
     if i == k {
         return p;
     }
-    let mut last = n;
-    if n == k {
-        last = k - 1;
-    }
+    let at = spare_place(n, k);
     let mut q = p;
-    let slot = q.order[last];
+    let slot = q.order[at];
     q.costs[slot] = cost;
     write_row(&mut q.plans, slot, s, plan);
     q.splits[slot] = split;
     q.barred[slot] = mask;
-    move_up(&mut q.order, i, last);
-    q.count = last + 1;
+    move_up(&mut q.order, i, at);
+    q.count = at + 1;
     q
 }
 

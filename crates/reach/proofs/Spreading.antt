@@ -3,12 +3,11 @@
 use mathlib.Core.Path.{_≡_, refl, sym, ap, ap₂, _∙_, fun-ext, subst}
 use mathlib.Core.List.{List, [], _∷_}
 use Prim.Native.Nat.{ℕ, zero, suc, _+_, _*_, _-_, _≤_, _<_}
-use native.Mathlib.Nat.{le-trans}
 use native.Mathlib.Decide.{ℕ-discrete}
 use native.Mathlib.Omega.{arith}
 use borrow.Author.Tests.{eq-eqb, ne-eqb}
 use lib.IntN.{natAbs}
-use lib.ListN.{length, getD, set, replicate, length-set}
+use lib.ListN.{length, set, replicate, length-set}
 use lib.Seq.{getD-set-same, getD-set-other}
 use Rattle.model.specs.Model.{Words, word, firstState, stage, branches, Transition, action}
 use Rattle.model.specs.Questions.{bookNumber}
@@ -25,8 +24,8 @@ use Rattle.reach.specs.Weights.{weightAt, firstWeights, Holds, Room}
 
 -- ---- sums at single states
 
--- a sum that is stored
-pub add-set : (w : List ℕ) (q x : ℕ) → q < length w → weightAt (set w q (weightAt w q + x)) ≡ addTo q x (weightAt w)
+-- an array once x more is stored at q
+add-set : (w : List ℕ) (q x : ℕ) → q < length w → weightAt (set w q (weightAt w q + x)) ≡ addTo q x (weightAt w)
 unfolding addTo
 add-set w q x l = fun-ext (λ s. go s (ℕ-discrete s q))
   where
@@ -34,6 +33,7 @@ add-set w q x l = fun-ext (λ s. go s (ℕ-discrete s q))
     go s (yes e) = rw (eq-eqb s q e, e) (getD-set-same w q (weightAt w q + x) 0 l)
     go s (no n) = rw (ne-eqb s q n) (getD-set-other w q s (weightAt w q + x) 0 n ∙ omega arith)
 
+-- an array of zeros, and 1 stored at state 0
 no-weights : (n s : ℕ) → weightAt (replicate n 0) s ≡ 0
 no-weights zero s = refl
 no-weights (suc n) zero = refl
@@ -48,12 +48,12 @@ first-held = record { long = refl; at = λ s. ap (λ (W : ℕ → ℕ). W s) are
 -- ---- sums at the next states
 
 -- no weight falls
-pub spread-grows : (x : ℕ) (ts : List Transition) (W : ℕ → ℕ) (s : ℕ) → W s ≤ spread x ts W s
+spread-grows : (x : ℕ) (ts : List Transition) (W : ℕ → ℕ) (s : ℕ) → W s ≤ spread x ts W s
 unfolding spread addTo
 spread-grows x [] W s = omega arith
 spread-grows x (t ∷ ts) W s = omega (arith, spread-grows x ts (addTo (t .next) (x * t .weight) W) s)
 
--- x is spread over the first i of r transitions, and the whole sums are T
+-- x is spread over the first i of r transitions; T has the sums once it is spread over all of them
 pub record ToSpread (ws : Words) (at l base r x i : ℕ) (T : ℕ → ℕ) (w : List ℕ) : Type 0 where
   pub long : length w ≡ 64
   pub low : AtNexts (λ q. (q < 64) × (T q ≤ 10000000000000000)) (terms ws at l base i (r - i))
@@ -68,20 +68,21 @@ module _ {ws : Words} {at l base r x i : ℕ} {T : ℕ → ℕ} {w : List ℕ} (
     cons k f =
         terms-step ws at l base i r more ∙ ap₂ (λ (n v : ℕ). record { next = n; weight = v } ∷ after) (sym e) (sym f)
 
-    -- q, the next state of transition i, has a place
+    -- q, the next state of transition i, is one of the 64
     pub next-low : q < 64
     next-low = (rw (cons (natAbs (word ws (at + l + i))) refl) at (m .low)) .0 .0
 
     module _ (k : ℕ) (f : k ≡ natAbs (word ws (at + l + i))) where
-      -- the sum there
+      -- the new sum at q
       abbrev sum : ℕ
       sum = weightAt w q + x * k
 
+      -- with it the transitions from i + 1 on make the whole sums
       whole : spread x after (weightAt (set w q sum)) ≡ T
       unfolding spread
       whole = ap (spread x after) (add-set w q (x * k) (omega (arith, next-low, m .long))) ∙ (rw (cons k f) at (m .rest))
 
-      -- stays small
+      -- the sum does not wrap
       pub sum-small : sum ≤ 10000000000000000
       sum-small =
           let low = rw (cons k f) at (m .low) in
@@ -93,7 +94,6 @@ module _ {ws : Words} {at l base r x i : ℕ} {T : ℕ → ℕ} {w : List ℕ} (
             getD-set-same w q sum 0 (omega (arith, next-low, m .long)),
           )
 
-      -- and once it is stored, the transitions from i + 1 on are left
       pub spread-next : ToSpread ws at l base r x (i + 1) T (set w q sum)
       spread-next = record { long = length-set w q sum ∙ m .long; low = (rw (cons k f) at (m .low)) .1; rest = whole }
 
@@ -111,7 +111,7 @@ module _ (ws : Words) (ok : bookNumber ws ≡ 0) (z : Sizes) (are : SizesAre ws 
   all-to-spread at r base x w e f g long room =
       record {
         long = long;
-        low = subst (AtNexts Low) (sym are-terms) (every-both (λ t i h. (omega (arith, accepted ws ok .sizes .s-high), h)) ts (shape ws ok .inside p c) room);
+        low = subst (AtNexts Low) (sym are-terms) low;
         rest = ap (λ (us : List Transition). spread x us (weightAt w)) are-terms;
       }
     where
@@ -120,6 +120,9 @@ module _ (ws : Words) (ok : bookNumber ws ≡ 0) (z : Sizes) (are : SizesAre ws 
 
       Low : ℕ → Type 0
       Low q = (q < 64) × (spread x ts (weightAt w) q ≤ 10000000000000000)
+
+      low : AtNexts Low ts
+      low = every-both (λ t i h. (omega (arith, accepted ws ok .sizes .s-high), h)) ts (shape ws ok .inside p c) room
 
       are-terms : terms ws (at + 1) (z .l) base 0 (r - 0) ≡ ts
       are-terms = let n : r - 0 ≡ r = omega arith in rw n (transitions-are ws ok z are p c j a at r base e f g)

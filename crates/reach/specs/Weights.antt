@@ -16,12 +16,12 @@ weightAt w s = getD w s 0
 abbrev pub firstWeights : ℕ → ℕ
 firstWeights = addTo 0 1 (λ q. 0)
 
--- the array has the weight W s at every s
+-- the array w has the weights W
 pub record Holds (w : List ℕ) (W : ℕ → ℕ) : Type 0 where
   pub long : length w ≡ 64
   pub at : (s : ℕ) → weightAt w s ≡ W s
 
--- the sums at the next states stay small while x is spread
+-- no sum at a next state wraps while x is spread
 abbrev pub Room : ℕ → List Transition → List ℕ → Type 0
 Room x ts w = AtNexts (λ q. spread x ts (weightAt w) q ≤ 10000000000000000) ts
 

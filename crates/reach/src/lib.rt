@@ -22,7 +22,15 @@ fn first_weights() -> [usize; 64]
 }
 
 // Adds y times its weight to the next state of each transition of action c of state p.
-fn spread_action(b: &[i32], z: Sizes, x: &[usize; 192], p: usize, c: usize, y: usize, w: &mut [usize; 64])
+fn spread_action(
+    b: &[i32],
+    z: Sizes,
+    x: &[usize; 192],
+    p: usize,
+    c: usize,
+    y: usize,
+    w: &mut [usize; 64],
+)
     requires { ⌜ (bookNumber (now b) ≡ 0) × SizesAre (now b) z × IndexOf (now b) (now x) × (p < stateCount (now b)) × (c < actionCount (now b) p) × (length (now w) ≡ 64) × Room y (action (now b) p c .transitions) (now w) ⌝ }
     ensures { λ _. ⌜ Holds (now (w .exit)) (spread y (action (now (b .entry)) p c .transitions) (weightAt (now (w .entry)))) ⌝ }
 {

@@ -14,17 +14,17 @@ use lib.IntN.{ℤ}
 use Rattle.model.specs.Lists.{isIn}
 use Rattle.model.specs.Model.{Words, scale, stateCount, togo, actionCount, action, options}
 use Rattle.model.specs.Questions.{bookNumber}
-use Rattle.model.specs.Policy.{Policy, onward}
+use Rattle.model.specs.Policy.{Policy, isPolicy, onward}
 use Rattle.model.specs.Path.{byteAt}
-use Rattle.laws.specs.Members.{In, in-one, Every, every-in, isIn-in, true-T}
+use Rattle.laws.specs.Members.{In, in-one, Every, every-in, isIn-in, true-T, T-true}
 use Rattle.laws.specs.Policies.{IsPolicy, Reads, reads}
 use Rattle.laws.specs.First.{Lists, costFrom0, firstPolicy, is-policy}
 use Rattle.accepted.specs.Facts.{accepted}
-use Rattle.accepted.specs.Shape.{shape}
+use Rattle.accepted.specs.Shape.{shape, policy-is}
 use Rattle.masks.specs.Masks.{with}
 use Rattle.masks.proofs.Free.{free-below}
 use Rattle.masks.proofs.Bars.{has-with, with-small, free-all}
-use Rattle.splits.specs.Parts.{without, part, split-lt, split-eq, split-gt, Reaches}
+use Rattle.splits.specs.Parts.{without, part, split-lt, split-eq, split-gt, Reaches, sound}
 use Rattle.splits.specs.Kbest.{addChild, childrenFrom, childAt, children, child-lists}
 use Rattle.splits.specs.ChildCost.{child-front}
 use Rattle.stored.specs.Entry.{Entry}
@@ -43,6 +43,9 @@ pub record Right (ws : Words) (e : Entry) : Type 0 where
   pub plan-is : e .plan ≡ firstOf ws (listsOf ws e)
   pub cost-is : e .cost ≡ costOf ws (e .plan)
   pub mask-small : e .mask < 256
+  -- the policies of its lists are the model's
+  pub among : (u : Policy) → IsPolicy (action ws) (listsOf ws e) (stateCount ws) 0 (0 ∷ []) u
+      → IsPolicy (action ws) (options ws) (stateCount ws) 0 (0 ∷ []) u
 
 -- the set that is barred at state p when a candidate is split there
 abbrev pub maskAt : Entry → ℕ → ℕ
@@ -120,6 +123,10 @@ module _ (ws : Words) (ok : bookNumber ws ≡ 0) (e : Entry) (ri : Right ws e) w
       subst (IsPolicy (action ws) (listsOf ws e) (stateCount ws) 0 (0 ∷ [])) (sym (ri .plan-is))
       (is-policy (scale ws) (stateCount ws) (action ws) (togo ws) (shape ws ok) (λ p. p < stateCount ws) (listsOf ws e) (ri .lists))
 
+  -- and so of the model
+  pub plan-model : isPolicy ws (e .plan) ≡ true
+  plan-model = T-true (isPolicy ws (e .plan)) (policy-is ws (e .plan) .1 (ri .among (e .plan) plan-policy))
+
   -- a child at a reached state with an action left
   module _ (p : ℕ) (state : p < stateCount ws) (from : e .split ≤ p) (small : f p < 8) (reached : Reaches (action ws) p 0 (0 ∷ []) (e .plan))
       (some : (c : ℕ) × In c (left ws p (maskAt e p))) where
@@ -160,6 +167,10 @@ module _ (ws : Words) (ok : bookNumber ws ≡ 0) (e : Entry) (ri : Right ws e) w
           plan-is = ap (firstOf ws) (sym child-is);
           cost-is = refl;
           mask-small = with-small (cond (eqb p (e .split)) (e .mask) 0) (f p) (old-small p) small;
+          among = λ u h. ri .among u
+              (sound (action ws) (listsOf ws e) (byteAt (firstOf ws (listsOf ws e))) p (stateCount ws) 0 (0 ∷ []) (firstOf ws (listsOf ws e)) u
+              (subst (IsPolicy (action ws) (listsOf ws e) (stateCount ws) 0 (0 ∷ [])) (ri .plan-is) plan-policy) (reads (firstOf ws (listsOf ws e))) reached′
+              (subst (λ (os : ℕ → List ℕ). IsPolicy (action ws) os (stateCount ws) 0 (0 ∷ []) u) child-is h) .0);
         }
 
   -- ---- all children, by the walk through the states

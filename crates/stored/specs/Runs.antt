@@ -17,6 +17,7 @@ use Rattle.model.specs.Path.{policyCost}
 use Rattle.model.specs.Order.{lower, before, comesBefore, ranking, rankingCosts}
 use Rattle.laws.specs.Members.{In, Every}
 use Rattle.laws.specs.Sorting.{sorted-same}
+use Rattle.laws.specs.Policies.{IsPolicy}
 use Rattle.laws.specs.First.{Lists}
 use Rattle.accepted.specs.Shape.{shape, lists}
 use Rattle.accepted.specs.Demands.{cost-from, policies-are, bestPolicy, in-list}
@@ -129,6 +130,7 @@ module _ (ws : Words) (ok : bookNumber ws ≡ 0) where
         plan-is = ap (firstOf ws) (sym start-lists);
         cost-is = refl;
         mask-small = omega arith;
+        among = λ u h. subst (λ (os : ℕ → List ℕ). IsPolicy (action ws) os (stateCount ws) 0 (0 ∷ []) u) start-lists h;
       }
 
   -- a policy of the model costs what the recursion says

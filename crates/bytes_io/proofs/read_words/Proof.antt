@@ -3,13 +3,14 @@ use mathlib.Core.Bool.{Bool, true, false, _&&_}
 use mathlib.Core.List.{List, [], _∷_, _++_}
 use Prim.Native.Nat.{ℕ, _+_, _*_, _-_, _/_, _%_, _≤_, _<_}
 use native.Mathlib.Nat.{add-zero}
+use Rattle.book.proofs.Words.{read32}
 use native.Mathlib.Omega.{arith}
 use lib.ListN.{length, take, drop, getD, set, length-set}
 use Rattle.model.specs.Lists.{same, forEach}
 use Rattle.model.specs.Bytes.{bytes, signedBytes, fromBytes, signed, wordsOf}
 use Rattle.bytes_io.specs.Slices.{written}
 use Rattle.bytes_io.proofs.Numbers.{bytes-step, words-step, length-words, length-signed, signed-complement}
-use Rattle.bytes_io.proofs.Parts.{set-step, written-end, part-step, write-step, same-step}
+use Rattle.bytes_io.proofs.Parts.{written-front, set-step, written-end, part-step, write-step, same-step}
 use borrow.Author.Needs.{needs}
 use Rattle.bytes_io.proofs.read_words.Statement.{statement}
 use Rattle.bytes_io.proofs.read_words.Tie as tie
@@ -27,7 +28,7 @@ abbrev μ-loop : tie.MeasureT-loop
 
 loop-holds : tie.Need-loop-holds Inv-loop μ-loop
 loop-holds c =
-    let z : c .args .n - 0 ≡ c .args .n = omega arith in (omega arith, refl, rw z)
+    let z : c .before .args .n - 0 ≡ c .before .args .n = omega arith in (omega arith, refl, rw (z, add-zero))
 
 mul-read-word : tie.Need-mul-read-word Inv-loop μ-loop
 mul-read-word c = search needs
@@ -51,13 +52,33 @@ loop-less : tie.Need-loop-less Inv-loop μ-loop
 loop-less c = search needs
 
 loop-again : tie.Need-loop-again Inv-loop μ-loop
-loop-again c = ?
+loop-again c =
+    let l = c .before .before .loop in
+    let s = c .before .before .before .before .args in
+    let r = s .r .now in
+    let p = s .at + 4 * l .i in
+    let y = c .read-word in
+    rw (read32 (y .result) (y .ok)) (
+      omega arith,
+      length-set (l .out) (l .i) (y .result) ∙ l .inv .1,
+      l .inv .2
+      ∙ ap (written (l .out) (l .i) (s .n - l .i))
+          (words-step r (l .i) (s .n) p (s .at + 4 * (l .i + 1)) (omega arith) (omega arith)
+          ∙ ap (λ z. z ∷ wordsOf (s .n - (l .i + 1)) (drop (s .at + 4 * (l .i + 1)) r)) (sym (y .ensures)))
+      ∙ set-step (l .out) (l .i) (s .n) (l .i) (l .i + 1) (y .result) (wordsOf (s .n - (l .i + 1)) (drop (s .at + 4 * (l .i + 1)) r)) (omega arith)
+          (omega arith) refl,
+    )
 
 same-length : tie.Need-same-length Inv-loop μ-loop
-same-length c = ?
+same-length c = c .before .loop .inv .1
 
 returns : tie.Need-returns Inv-loop μ-loop
-returns c = ?
+returns c =
+    let l = c .before .loop in
+    let s = c .before .before .before .args in
+    let r = s .r .now in
+    let e = l .inv .2 ∙ written-end (l .out) (l .i) (s .n) (l .i) (λ n. wordsOf n (drop (s .at + 4 * l .i) r)) (omega arith) refl in
+    (sym e ∙ written-front (s .out .now) (s .n) (wordsOf (s .n) (drop (s .at) r)) (length-words (s .n) (drop (s .at) r)), l .inv .1)
 
 pub read-words-spec : {M : Type 1} → statement M
 read-words-spec =

@@ -8,8 +8,9 @@ use lib.ListN.{length, take, drop, getD, set, length-set}
 use Rattle.model.specs.Lists.{same, forEach}
 use Rattle.model.specs.Bytes.{bytes, signedBytes, fromBytes, signed, wordsOf}
 use Rattle.bytes_io.specs.Slices.{written}
-use Rattle.bytes_io.proofs.Numbers.{bytes-step, words-step, length-words, length-signed, signed-complement}
-use Rattle.bytes_io.proofs.Parts.{set-step, written-end, part-step, write-step, same-step}
+use Rattle.bytes_io.proofs.Numbers.{same-low-step, bytes-step, words-step, length-words, length-signed, signed-complement}
+use borrow.Author.Tests.{eq-eqb, ne-eqb}
+use Rattle.bytes_io.proofs.Parts.{same-bytes-step, set-step, written-end, part-step, write-step, same-step}
 use borrow.Author.Needs.{needs}
 use Rattle.bytes_io.proofs.same_bytes.Statement.{statement}
 use Rattle.bytes_io.proofs.same_bytes.Tie as tie
@@ -25,7 +26,7 @@ abbrev μ-loop : tie.MeasureT-loop
 
 loop-holds : tie.Need-loop-holds Inv-loop μ-loop
 loop-holds c =
-    let z : c .args .n - 0 ≡ c .args .n = omega arith in (omega arith, rw z)
+    let z : c .args .n - 0 ≡ c .args .n = omega arith in (omega arith, rw (z, add-zero))
 
 add-if1 : tie.Need-add-if1 Inv-loop μ-loop
 add-if1 c = search needs
@@ -37,7 +38,11 @@ shared-slice-read-if1-2 : tie.Need-shared-slice-read-if1-2 Inv-loop μ-loop
 shared-slice-read-if1-2 c = search needs
 
 returns : tie.Need-returns Inv-loop μ-loop
-returns c = ?
+returns c =
+    let l = c .before .before .before .before in
+    let s = l .before .args in
+    sym (l .loop .inv .1 ∙ same-bytes-step (s .r .now) (s .at) (s .src .now) (l .loop .i) (s .n) (omega arith) (omega arith) (omega arith)
+    ∙ rw (ne-eqb _ _ (c .if1 .taken)))
 
 add-i : tie.Need-add-i Inv-loop μ-loop
 add-i c = search needs
@@ -46,10 +51,20 @@ loop-less : tie.Need-loop-less Inv-loop μ-loop
 loop-less c = search needs
 
 loop-again : tie.Need-loop-again Inv-loop μ-loop
-loop-again c = ?
+loop-again c =
+    let l = c .before .before .before .before in
+    let s = l .before .args in (
+      omega arith,
+      l .loop .inv .1 ∙ same-bytes-step (s .r .now) (s .at) (s .src .now) (l .loop .i) (s .n) (omega arith) (omega arith) (omega arith)
+      ∙ rw (eq-eqb _ _ (c .if1 .left)),
+    )
 
 returns-2 : tie.Need-returns-2 Inv-loop μ-loop
-returns-2 c = ?
+returns-2 c =
+    let l = c .before .loop in
+    let s = c .before .before .args in
+    let z : s .n - l .i ≡ 0 = omega arith in
+    sym (l .inv .1 ∙ rw z)
 
 pub same-bytes-spec : {M : Type 1} → statement M
 same-bytes-spec =

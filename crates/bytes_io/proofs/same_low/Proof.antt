@@ -8,8 +8,9 @@ use lib.ListN.{length, take, drop, getD, set, length-set}
 use Rattle.model.specs.Lists.{same, forEach}
 use Rattle.model.specs.Bytes.{bytes, signedBytes, fromBytes, signed, wordsOf}
 use Rattle.bytes_io.specs.Slices.{written}
-use Rattle.bytes_io.proofs.Numbers.{bytes-step, words-step, length-words, length-signed, signed-complement}
-use Rattle.bytes_io.proofs.Parts.{set-step, written-end, part-step, write-step, same-step}
+use Rattle.bytes_io.proofs.Numbers.{same-low-step, bytes-step, words-step, length-words, length-signed, signed-complement}
+use borrow.Author.Tests.{eq-eqb, ne-eqb}
+use Rattle.bytes_io.proofs.Parts.{same-bytes-step, set-step, written-end, part-step, write-step, same-step}
 use borrow.Author.Needs.{needs}
 use Rattle.bytes_io.proofs.same_low.Statement.{statement}
 use Rattle.bytes_io.proofs.same_low.Tie as tie
@@ -26,7 +27,7 @@ abbrev μ-loop : tie.MeasureT-loop
 
 loop-holds : tie.Need-loop-holds Inv-loop μ-loop
 loop-holds c =
-    let z : c .args .n - 0 ≡ c .args .n = omega arith in (omega arith, rw z)
+    let z : c .before .args .n - 0 ≡ c .before .args .n = omega arith in (omega arith, rw (z, add-zero))
 
 add-wide : tie.Need-add-wide Inv-loop μ-loop
 add-wide c = search needs
@@ -38,7 +39,11 @@ wide-requires : tie.Need-wide-requires Inv-loop μ-loop
 wide-requires c κs = search needs
 
 returns : tie.Need-returns Inv-loop μ-loop
-returns c = ?
+returns c =
+    let l = c .before .before .before .before in
+    let s = l .before .before .args in
+    sym (l .loop .inv .1 ∙ same-low-step (s .r .now) (s .at) (l .loop .i) (s .n) (l .loop .y) (omega arith) (omega arith)
+    ∙ rw (ne-eqb _ _ (λ e. c .if1 .taken (c .before .wide .ensures .0 ∙ e))))
 
 add-i : tie.Need-add-i Inv-loop μ-loop
 add-i c = search needs
@@ -47,10 +52,20 @@ loop-less : tie.Need-loop-less Inv-loop μ-loop
 loop-less c = search needs
 
 loop-again : tie.Need-loop-again Inv-loop μ-loop
-loop-again c = ?
+loop-again c =
+    let l = c .before .before .before .before in
+    let s = l .before .before .args in (
+      omega arith,
+      l .loop .inv .1 ∙ same-low-step (s .r .now) (s .at) (l .loop .i) (s .n) (l .loop .y) (omega arith) (omega arith)
+      ∙ rw (eq-eqb _ _ (sym (c .before .wide .ensures .0) ∙ c .if1 .left)),
+    )
 
 returns-2 : tie.Need-returns-2 Inv-loop μ-loop
-returns-2 c = ?
+returns-2 c =
+    let l = c .before .loop in
+    let s = c .before .before .before .args in
+    let z : s .n - l .i ≡ 0 = omega arith in
+    sym (l .inv .1 ∙ rw z)
 
 pub same-low-spec : {M : Type 1} → statement M
 same-low-spec =

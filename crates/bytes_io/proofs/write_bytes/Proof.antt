@@ -26,7 +26,7 @@ abbrev μ-loop : tie.MeasureT-loop
 
 loop-holds : tie.Need-loop-holds Inv-loop μ-loop
 loop-holds c =
-    let z : c .args .n - 0 ≡ c .args .n = omega arith in (omega arith, refl, rw z)
+    let z : c .args .n - 0 ≡ c .args .n = omega arith in (omega arith, refl, rw (z, add-zero))
 
 shared-slice-read-out : tie.Need-shared-slice-read-out Inv-loop μ-loop
 shared-slice-read-out c = search needs
@@ -45,8 +45,8 @@ loop-less c = search needs
 
 loop-again : tie.Need-loop-again Inv-loop μ-loop
 loop-again c =
-    let l = c .before .loop in
-    let s = c .before .before .args in
+    let l = c .before .before .loop in
+    let s = c .before .before .before .args in
     let src = s .src .now in (
       omega arith,
       length-set (l .out) (s .at + l .i) (getD src (l .i) 0) ∙ l .inv .1,

@@ -25,7 +25,7 @@ abbrev μ-loop : tie.MeasureT-loop
 
 loop-holds : tie.Need-loop-holds Inv-loop μ-loop
 loop-holds c =
-    let z : c .args .n - 0 ≡ c .args .n = omega arith in (omega arith, refl, rw z)
+    let z : c .args .n - 0 ≡ c .args .n = omega arith in (omega arith, refl, rw (z, add-zero))
 
 cast-out : tie.Need-cast-out Inv-loop μ-loop
 cast-out c = search needs

@@ -2,8 +2,10 @@
 -- Assumes nothing.
 use Prim.Native.Nat.{_<_}
 use native.Mathlib.Omega.{arith}
+use lib.IntN.{pos}
 use lib.ListN.{getD}
 use Rattle.pool.proofs.Moves.{slot-low}
+use Rattle.costs.proofs.Sums.{read64}
 use borrow.Author.Needs.{needs}
 use Rattle.pool.proofs.first_cost.Statement.{statement}
 use Rattle.pool.proofs.first_cost.Tie as tie
@@ -23,7 +25,9 @@ element-copy-out-result : tie.Need-element-copy-out-result
 element-copy-out-result c = omega (arith, low (c .before))
 
 returns : tie.Need-returns
-returns c = ?
+returns c =
+    λ s. let p = c .before .before .args .t1 in
+    read64 (getD (p .costs) (getD (p .order) 0 0) (pos 0)) (c .result .given)
 
 pub first-cost-spec : {M : Type 1} → statement M
 first-cost-spec =

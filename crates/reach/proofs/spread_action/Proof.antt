@@ -4,7 +4,7 @@ use mathlib.Core.Path.{_≡_, refl, ap}
 use Prim.Native.Nat.{ℕ, _+_, _*_, _-_, _≤_, _<_}
 use native.Mathlib.Omega.{arith}
 use lib.IntN.{natAbs}
-use lib.ListN.{length, getD, set}
+use lib.ListN.{length, getD}
 use Rattle.model.specs.Model.{Words, word, branches, action}
 use Rattle.questions.specs.Sizes.{Sized}
 use Rattle.accepted.specs.Facts.{accepted}
@@ -14,7 +14,6 @@ use Rattle.costs.specs.Terms.{ActionAt}
 use Rattle.costs.proofs.Actions.{inside-lines}
 use Rattle.reach.specs.Weights.{weightAt}
 use Rattle.reach.proofs.Spreading.{ToSpread, all-to-spread, next-low, sum-small, spread-next, all-spread}
-use borrow.Author.Needs.{needs}
 use Rattle.reach.proofs.spread_action.Statement.{statement}
 use Rattle.reach.proofs.spread_action.Tie as tie
 
@@ -143,6 +142,7 @@ mul-w c = omega (arith, low (c .before))
 element-copy-out-w : tie.Need-element-copy-out-w Inv-loop μ-loop
 element-copy-out-w c = low (c .before)
 
+-- the sum of this turn
 small : (c : tie.After-size-at3 Inv-loop μ-loop) → let d = c .before in
     getD (l d .loop .w) (q d) 0 + s (a d) .args .y * c .size-at3 .result ≤ 10000000000000000
 small c =
@@ -175,11 +175,7 @@ loop-again c =
     (omega arith, i .1, i .2, spread-next (i .3) (d .before .loop-test .taken) (q d) (q-is d) (k .result) (k .ensures .is))
 
 returns : tie.Need-returns Inv-loop μ-loop
-returns c =
-    let l = c .before in
-    let a = l .before .before .before in
-    let g = s a .args in
-    all-spread (l .loop .inv .3) (c .loop-test .left)
+returns c = all-spread (c .before .loop .inv .3) (c .loop-test .left)
 
 pub spread-action-spec : {M : Type 1} → statement M
 spread-action-spec =

@@ -1,0 +1,107 @@
+use mathlib.Core.Path.{_≡_, refl, sym, ap, _∙_}
+use mathlib.Core.Bool.{Bool, true, false, _&&_}
+use Prim.Native.Nat.{ℕ, _+_, _*_, _-_, _/_, _%_, _≤_, _<_}
+use native.Mathlib.Nat.{add-zero}
+use native.Mathlib.Omega.{arith}
+use lib.IntN.{pos}
+use lib.ListN.{length, take, drop, getD}
+use lib.Seq.{take-length}
+use mir.Facts.{toZ-ofZ}
+use mir.Syntax.{w64}
+use mir.Val.{SFits}
+use borrow.Author.Tests.{not-true, not-false}
+use Rattle.model.specs.Lists.{same, forEach}
+use Rattle.model.specs.Bytes.{bytes, signedBytes}
+use Rattle.book.proofs.Words.{read32, wider}
+use Rattle.bytes_io.specs.Slices.{written, complement}
+use Rattle.bytes_io.proofs.Numbers.{length-signed, signed-complement}
+use Rattle.bytes_io.proofs.Parts.{rest, write-step, write-end, same-step, same-end}
+use borrow.Author.Needs.{needs}
+use Rattle.bytes_io.proofs.same_costs.Statement.{statement}
+use Rattle.bytes_io.proofs.same_costs.Tie as tie
+use Rattle.bytes_io.proofs.same_costs.Reads as reads
+use Rattle.bytes_io.proofs.same_costs.Lts as lts
+use Rattle.bytes_io.proofs.same_cost.Reads as same-cost-reads
+
+abbrev Inv-loop : tie.InvT-loop
+Inv-loop r at costs k i₀ i =
+    (i ≤ k)
+    × (same (take (8 * k) (drop at r)) (forEach (signedBytes 8) (take k costs))
+    ≡ same (take (8 * (k - i)) (drop (at + 8 * i) r)) (rest (signedBytes 8) costs k i))
+
+abbrev μ-loop : tie.MeasureT-loop
+μ-loop r at costs k i₀ i = k - i
+
+loop-holds : tie.Need-loop-holds Inv-loop μ-loop
+loop-holds c =
+    let s = c .before .args in
+    let z : s .k - 0 ≡ s .k = omega arith in
+    (omega arith, rw (z, add-zero))
+
+mul-x : tie.Need-mul-x Inv-loop μ-loop
+mul-x c = search needs
+
+shared-slice-copy-out-x : tie.Need-shared-slice-copy-out-x Inv-loop μ-loop
+shared-slice-copy-out-x c = search needs
+
+mul-same-cost : tie.Need-mul-same-cost Inv-loop μ-loop
+mul-same-cost c = search needs
+
+add-same-cost : tie.Need-add-same-cost Inv-loop μ-loop
+add-same-cost c = search needs
+
+same-cost-requires : tie.Need-same-cost-requires Inv-loop μ-loop
+same-cost-requires c κs = search needs
+
+-- what the costs so far leave to compare
+step : (c : tie.After-same-cost Inv-loop μ-loop) →
+    let l = c .before .before .before .loop in
+    let s = c .before .before .before .before .before .args in
+    same (take (8 * s .k) (drop (s .at) (s .r .now))) (forEach (signedBytes 8) (take (s .k) (s .costs .now)))
+    ≡ (c .same-cost .result && same (take (8 * (s .k - (l .i + 1))) (drop (s .at + 8 * (l .i + 1)) (s .r .now))) (rest (signedBytes 8) (s .costs .now) (s .k) (l .i + 1)))
+step c =
+    let l = c .before .before .before .loop in
+    let s = c .before .before .before .before .before .args in
+    let xs = s .costs .now in
+    let f : SFits w64 (getD xs (l .i) (pos 0)) = record { sfits = c .before .x .given } in
+    let e : c .same-cost .result ≡ same (take 8 (drop (s .at + 8 * l .i) (s .r .now))) (signedBytes 8 (getD xs (l .i) (pos 0)))
+    = rw (toZ-ofZ f) at (c .same-cost .ensures) in
+    l .inv .1
+    ∙ same-step 8 (signedBytes 8) (length-signed 8) xs (pos 0) (l .i) (s .k) (omega arith) (omega arith) (s .r .now) (s .at) (omega arith)
+    ∙ rw e
+
+returns : tie.Need-returns Inv-loop μ-loop
+returns c = sym (step (c .before) ∙ rw (not-true (c .before .same-cost .result) (c .if1 .taken)))
+
+add-i : tie.Need-add-i Inv-loop μ-loop
+add-i c = search needs
+
+loop-less : tie.Need-loop-less Inv-loop μ-loop
+loop-less c = search needs
+
+loop-again : tie.Need-loop-again Inv-loop μ-loop
+loop-again c = (omega arith, step (c .before) ∙ rw (not-false (c .before .same-cost .result) (c .if1 .left)))
+
+returns-2 : tie.Need-returns-2 Inv-loop μ-loop
+returns-2 c =
+    let l = c .before .loop in
+    let s = c .before .before .before .args in
+    sym (l .inv .1 ∙ same-end (signedBytes 8) (s .costs .now) (s .k) 8 (l .i) (omega arith) (s .r .now) (s .at + 8 * l .i))
+
+pub same-costs-spec : {M : Type 1} → statement M
+same-costs-spec =
+    tie.close
+    (tie.spec
+    Inv-loop
+    μ-loop
+    loop-holds
+    mul-x
+    shared-slice-copy-out-x
+    mul-same-cost
+    add-same-cost
+    same-cost-requires
+    returns
+    add-i
+    loop-less
+    loop-again
+    returns-2)

@@ -1,0 +1,71 @@
+-- What the search asks of its parts and what each step makes of the pool.
+-- Assumes nothing.
+use mathlib.Core.Path.{_≡_}
+use mathlib.Core.List.{List, [], _∷_}
+use Prim.Native.Nat.{ℕ, _+_, _*_, _-_, _≤_, _<_}
+use lib.IntN.{ℤ}
+use lib.ListN.{take}
+use Rattle.model.specs.Lists.{insert}
+use Rattle.model.specs.Path.{byteAt}
+use Rattle.model.specs.Recursion.{bestOf, through}
+use Rattle.laws.specs.Members.{In}
+use Rattle.model.specs.Model.{Words, scale, stateCount, togo, actionCount, action, options}
+use Rattle.model.specs.Questions.{bookNumber}
+use Rattle.model.specs.Policy.{Policy}
+use Rattle.book.specs.Read.{SizesAre}
+use Rattle.book.specs.declared.Sizes.{Sizes}
+use Rattle.index.specs.Index.{IndexOf}
+use Rattle.build.specs.Best.{RowsOf, BestOf}
+use Rattle.reach.specs.Weights.{WeightsOf}
+use Rattle.stored.specs.Entry.{Entry, earlierEntry}
+use Rattle.pool.specs.Entries.{Formed}
+use Rattle.pool.specs.declared.Pool.{Pool}
+use Rattle.splits.specs.Search.{admit}
+use Rattle.stored.specs.Lists.{left}
+use Rattle.stored.specs.Children.{Right, maskAt, childEntry, addIf, splitsAt, childEntries}
+use Rattle.stored.specs.Runs.{itself}
+use Rattle.engine.specs.declared.Parent.{Parent}
+
+-- a checked book with its sizes, its index, its table of action costs and its first best actions
+pub record Ready (ws : Words) (z : Sizes) (x : List ℕ) (q : List ℤ) (best : List ℕ) : Type 0 where
+  pub ok : bookNumber ws ≡ 0
+  pub sizes : SizesAre ws z
+  pub index : IndexOf ws x
+  pub rows : RowsOf ws q
+  pub firsts : BestOf ws best
+
+abbrev pub entryOf : Parent → Policy → Entry
+entryOf e bs = record { cost = e .cost; plan = bs; split = e .split; mask = e .mask }
+
+-- a listed candidate with its bytes and their reach weights
+pub record Parenting (ws : Words) (e : Parent) (bs : Policy) (w : List ℕ) : Type 0 where
+  pub right : Right ws (entryOf e bs)
+  pub weights : WeightsOf ws bs w
+
+-- a pool that holds at most k
+pub record Waiting (k : ℕ) (p : Pool) : Type 0 where
+  pub k-low : 1 ≤ k
+  pub k-high : k ≤ 64
+  pub formed : Formed p
+  pub few : p .count ≤ k
+
+-- e is split at state p, where c is the next best action after those barred, `mask` among them its own
+pub record ChildAt (ws : Words) (e : Entry) (p c mask : ℕ) : Type 0 where
+  pub state : p < stateCount ws
+  pub from : e .split ≤ p
+  pub own : byteAt (e .plan) p < actionCount ws p
+  pub mask-is : mask ≡ maskAt e p
+  pub next : c ≡ bestOf (through (scale ws) (action ws) (options ws) (togo ws p) p) (left ws p (maskAt e p))
+  pub some : In c (left ws p (maskAt e p))
+
+-- the entries after the child joined them
+abbrev pub joined : Words → ℕ → Entry → ℕ → List Entry → List Entry
+joined ws k e p es = take k (insert earlierEntry (childEntry ws e p) es)
+
+-- the entries after the child of e at state p joined them, if there is one
+abbrev pub admitted : Words → ℕ → Entry → ℕ → List Entry → List Entry
+admitted ws k e p es = admit earlierEntry itself k (addIf (splitsAt e p) (left ws p (maskAt e p)) (childEntry ws e p) []) es
+
+-- after all those of the n states from p on
+abbrev pub admittedFrom : Words → ℕ → Entry → ℕ → ℕ → List Entry → List Entry
+admittedFrom ws k e p n es = admit earlierEntry itself k (childEntries ws e p n) es

@@ -1,0 +1,38 @@
+// The K best policies of a checked book. The first candidate is all policies. The first policy of the first candidate that waits is listed, and what is
+// left of its set is split, at each state that it reaches from its own split state on. A candidate that K others come before is let go: no policy of
+// its set is among the first K.
+use book::Sizes;
+use pool::Pool;
+ghost use mathlib.Core.Path.{_≡_};
+ghost use Prim.Native.Nat.{_*_, _-_, _<_, _≤_};
+ghost use lib.ListN.{length};
+ghost use Rattle.model.specs.Model.{stateCount, actionCount};
+ghost use Rattle.model.specs.Path.{byteAt};
+ghost use Rattle.engine.specs.Engine.{Ready, Parenting, Waiting, ChildAt, entryOf, joined, admitted, admittedFrom};
+ghost use Rattle.pool.specs.Entries.{entries};
+
+// The candidate whose first policy is listed: its cost, its split state and the set of actions barred there. Its bytes are lent beside it.
+pub struct Parent {
+    pub cost: i64,
+    pub split: usize,
+    pub mask: u8,
+}
+
+fn zeros() -> [u8; 64]
+    ensures { λ r. ⌜ length r ≡ 64 ⌝ }
+{
+    [0; 64]
+}
+
+// The pool with the child of e that takes action c at state p.
+fn add_child(b: &[i32], z: Sizes, x: &[usize; 192], q: &[i64; 512], best: &[usize; 64], w: &[usize; 64], plan: &[u8], e: Parent, p: usize, c: usize, mask: u8, k: usize, pool: Pool) -> Pool
+    requires { ⌜ Ready (now b) z (now x) (now q) (now best) × Parenting (now b) e (now plan) (now w) × ChildAt (now b) (entryOf e (now plan)) p c mask × Waiting k pool ⌝ }
+    ensures { λ r. ⌜ Waiting k r × (entries (stateCount (now (b .entry))) r ≡ joined (now (b .entry)) k (entryOf e (now (plan .entry))) p (entries (stateCount (now (b .entry))) pool)) ⌝ }
+{
+    let s = z.s;
+    let f = plan[p] as usize;
+    let cost = child::child_cost(q, w, p, c, f, e.cost);
+    let mut row = zeros();
+    build::build(b, z, x, best, plan, p, c, &mut row[..s]);
+    pool::insert(pool, k, s, cost, &row[..s], p, mask)
+}
