@@ -1,8 +1,11 @@
 // The cost of a child of a candidate: its parent's, moved by the reach weight of the split state times the difference of the two actions' costs.
 ghost use mathlib.Core.Path.{_≡_};
+ghost use mathlib.Core.Bool.{cond};
 ghost use Prim.Native.Nat.{_<_};
 ghost use lib.IntN.{pos, _+ℤ_, _-ℤ_, _*ℤ_};
+ghost use lib.Dec.{eqb};
 ghost use lib.ListN.{getD};
+ghost use Rattle.masks.specs.Masks.{with};
 ghost use Rattle.table.specs.Table.{rowOf};
 ghost use Rattle.child.specs.Move.{Movable};
 
@@ -19,4 +22,15 @@ pub fn child_cost(q: &[i64; 512], w: &[usize; 64], p: usize, c: usize, f: usize,
     ensures { λ r. ⌜ r ≡ cost +ℤ pos (getD (now (w .entry)) p 0) *ℤ (rowOf (now (q .entry)) p c -ℤ rowOf (now (q .entry)) p f) ⌝ }
 {
     moved(cost, w[p], q[8 * p + c], q[8 * p + f])
+}
+
+// The set of actions barred at state p when a candidate is split there: its own action f, and at its own split state what was barred before.
+pub fn mask_at(split: usize, mask: u8, p: usize, f: usize) -> u8
+    requires { ⌜ f < 8 ⌝ }
+    ensures { λ r. ⌜ r ≡ with (cond (eqb p split) mask 0) f ⌝ }
+{
+    if p == split {
+        return masks::bar(mask, f as u8);
+    }
+    masks::bar(0, f as u8)
 }

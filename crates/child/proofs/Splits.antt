@@ -1,0 +1,96 @@
+-- Whether a candidate has a child at a state, by its byte there and by what is left.
+-- Assumes nothing.
+use mathlib.Core.Path.{_≡_, refl, sym, ap, _∙_, subst}
+use mathlib.Core.Bool.{Bool, true, false, not, _&&_}
+use mathlib.Core.Logic.{_⊎_, inl, inr, ⊎-elim}
+use mathlib.Core.List.{List, [], _∷_}
+use Prim.Native.Nat.{ℕ, _+_, _≤_, _<_}
+use native.Mathlib.Nat.{zero-add}
+use native.Mathlib.Omega.{arith}
+use borrow.Author.Tests.{le-leb, ne-eqb, eq-eqb}
+use lib.Dec.{T, T-not, eqb, leb}
+use lib.IntN.{ℤ}
+use lib.ListN.{length}
+use Rattle.model.specs.Lists.{isIn}
+use Rattle.model.specs.Model.{Words, stateCount, actionCount, action}
+use Rattle.model.specs.Questions.{bookNumber}
+use Rattle.model.specs.Policy.{Policy}
+use Rattle.model.specs.Path.{byteAt}
+use Rattle.model.specs.Recursion.{bestOf}
+use Rattle.questions.specs.Ranges.{and-right}
+use Rattle.laws.specs.Members.{In, Every, every-in, isIn-in, in-isIn, true-T, false-T}
+use Rattle.laws.specs.Best.{best-in}
+use Rattle.accepted.specs.Facts.{accepted}
+use Rattle.accepted.specs.Shape.{shape}
+use Rattle.accepted.specs.Demands.{reached, policy-bytes}
+use Rattle.masks.proofs.Free.{free-below}
+use Rattle.splits.specs.Parts.{Reaches, reaches-is}
+use Rattle.stored.specs.Entry.{Entry}
+use Rattle.stored.specs.Lists.{left}
+use Rattle.stored.specs.Children.{Right, maskAt, childEntry, addIf, splitsAt, plan-model}
+use Rattle.value.proofs.Bytes.{byte-cases, policy-long}
+
+-- a first best action tells whether a list has one
+best-some : (f : ℕ → ℤ) (xs : List ℕ) → (bestOf f xs ≡ 255 → ⊥) → In (bestOf f xs) xs
+best-some f [] h = absurd (h refl)
+best-some f (x ∷ xs) h = best-in f (x ∷ xs) x (inl refl)
+
+best-none : (f : ℕ → ℤ) (xs : List ℕ) → Every (λ c. c < 8) xs → bestOf f xs ≡ 255 → xs ≡ []
+best-none f [] h e = refl
+best-none f (x ∷ xs) h e = absurd (omega (arith, e, every-in (λ c. c < 8) (x ∷ xs) h (bestOf f (x ∷ xs)) (best-in f (x ∷ xs) x (inl refl))))
+
+add-some : (xs : List ℕ) (c : ℕ) (k : Entry) → In c xs → addIf true xs k [] ≡ k ∷ []
+add-some [] c k i = absurd i
+add-some (x ∷ xs) c k i = refl
+
+add-none : (b : Bool) (k : Entry) → addIf b [] k [] ≡ []
+add-none true k = refl
+add-none false k = refl
+
+module _ (ws : Words) (ok : bookNumber ws ≡ 0) (e : Entry) (ri : Right ws e) (p : ℕ) (state : p < stateCount ws) (from : e .split ≤ p) where
+  abbrev here : List Entry
+  here = addIf (splitsAt e p) (left ws p (maskAt e p)) (childEntry ws e p) []
+
+  -- a state that is not reached has byte 255, and no child
+  pub none-unreached : byteAt (e .plan) p ≡ 255 → addIf (splitsAt e p) (left ws p (maskAt e p)) (childEntry ws e p) [] ≡ []
+  none-unreached b =
+      let f : splitsAt e p ≡ false = ap (λ (t : Bool). leb (e .split) p && not t) (eq-eqb (byteAt (e .plan) p) 255 b) ∙ and-right (leb (e .split) p) in
+      ap (λ (t : Bool). addIf t (left ws p (maskAt e p)) (childEntry ws e p) []) f
+
+  pub none-left : (f : ℕ → ℤ) → bestOf f (left ws p (maskAt e p)) ≡ 255
+      → addIf (splitsAt e p) (left ws p (maskAt e p)) (childEntry ws e p) [] ≡ []
+  none-left f b =
+      ap (λ (xs : List ℕ). addIf (splitsAt e p) xs (childEntry ws e p) [])
+      (best-none f (left ws p (maskAt e p)) (free-below (maskAt e p) 0 (actionCount ws p) (omega (arith, accepted ws ok .counts-high p state))) b)
+      ∙ add-none (splitsAt e p) (childEntry ws e p)
+
+  -- any other byte is an action of a reached state
+  module _ (other : byteAt (e .plan) p ≡ 255 → ⊥) where
+    pub own-action : byteAt (e .plan) p < actionCount ws p
+    own-action = ⊎-elim (λ b. absurd (other b)) (λ l. l) (byte-cases ws ok (e .plan) (plan-model ws ok e ri) p state)
+
+    pub own-small : byteAt (e .plan) p < 8
+    own-small = omega (arith, own-action, accepted ws ok .counts-high p state)
+
+    pub reaches-here : Reaches (action ws) p 0 (0 ∷ []) (e .plan)
+    reaches-here = go (isIn p (reached ws (e .plan))) refl
+      where
+        is : T (Rattle.model.specs.Policy.isPolicy ws (e .plan))
+        is = true-T (plan-model ws ok e ri)
+
+        go : (b : Bool) → isIn p (reached ws (e .plan)) ≡ b → Reaches (action ws) p 0 (0 ∷ []) (e .plan)
+        go true q =
+            reaches-is (action ws) (shape ws ok .later) p 0 (0 ∷ []) (e .plan) .1
+            ( isIn-in p (reached ws (e .plan)) (true-T q)
+            , omega arith
+            , omega (arith, policy-long ws ok (e .plan) (plan-model ws ok e ri) p state))
+        go false q =
+            absurd (other (policy-bytes ws ok (e .plan) .0 is .at-other p state
+            (λ i. T-not (isIn p (reached ws (e .plan))) (false-T q) (in-isIn p (reached ws (e .plan)) i))))
+
+    pub one-child : (f : ℕ → ℤ) (c : ℕ) → c ≡ bestOf f (left ws p (maskAt e p)) → (c ≡ 255 → ⊥)
+        → In c (left ws p (maskAt e p)) × (addIf (splitsAt e p) (left ws p (maskAt e p)) (childEntry ws e p) [] ≡ childEntry ws e p ∷ [])
+    one-child f c b n =
+        let i : In c (left ws p (maskAt e p)) = subst (λ (d : ℕ). In d (left ws p (maskAt e p))) (sym b) (best-some f (left ws p (maskAt e p)) (λ z. n (b ∙ z))) in
+        let t : splitsAt e p ≡ true = rw (le-leb (e .split) p from, ne-eqb (byteAt (e .plan) p) 255 other) in
+        (i, ap (λ (t : Bool). addIf t (left ws p (maskAt e p)) (childEntry ws e p) []) t ∙ add-some (left ws p (maskAt e p)) c (childEntry ws e p) i)
