@@ -1,26 +1,18 @@
 -- The action chosen at a state, by where the state stands.
 -- Assumes nothing.
-use mathlib.Core.Path.{_≡_, sym, ap, _∙_, subst}
+use mathlib.Core.Path.{_≡_, sym, ap, subst}
 use mathlib.Core.Bool.{cond}
 use mathlib.Core.Logic.{_⊎_, inr}
-use mathlib.Core.List.{head-eq-of-cons-eq}
 use Prim.Native.Nat.{ℕ, _<_}
 use native.Mathlib.Decide.{decLt, ℕ-discrete}
 use native.Mathlib.Omega.{arith}
 use borrow.Author.Tests.{lt-ltb, le-ltb, eq-eqb, ne-eqb}
 use lib.Dec.{eqb, ltb}
-use lib.ListN.{length, getD}
-use lib.Seq.{drop-cons}
 use Rattle.model.specs.Model.{Words, stateCount, actionCount}
 use Rattle.model.specs.Questions.{bookNumber}
 use Rattle.model.specs.Policy.{Policy}
-use Rattle.model.specs.Path.{byteAt}
 use Rattle.build.specs.Walk.{splitBy, chosen, Usable}
 use Rattle.build.proofs.Best.{best-at-below}
-
--- a byte that is there is the same whatever stands for a missing one
-pub read-byte : (bs : Policy) (s : ℕ) → s < length bs → getD bs s 0 ≡ byteAt bs s
-read-byte bs s h = head-eq-of-cons-eq (sym (drop-cons bs s 0 h) ∙ drop-cons bs s 255 h)
 
 module _ (f : ℕ → ℕ) (r c : ℕ) (g : ℕ → ℕ) where
   pub split-before : (s : ℕ) → s < r → splitBy f r c g s ≡ f s
@@ -43,13 +35,13 @@ module _ (f : ℕ → ℕ) (r c : ℕ) (g : ℕ → ℕ) where
 -- the action chosen at a state is 255 or one of its actions
 module _ (ws : Words) (ok : bookNumber ws ≡ 0) (bs : Policy) (r c : ℕ) (u : Usable ws bs r) (k : c < actionCount ws r) (s : ℕ)
     (l : s < stateCount ws) where
-  abbrev Fine : ℕ → Type 0
-  Fine a = (a ≡ 255) ⊎ (a < actionCount ws s)
+  abbrev ActionOrNone : ℕ → Type 0
+  ActionOrNone a = (a ≡ 255) ⊎ (a < actionCount ws s)
 
-  pub chosen-cases : Fine (chosen ws bs r c s)
+  pub chosen-cases : ActionOrNone (chosen ws bs r c s)
   chosen-cases = go (decLt s r) (ℕ-discrete s r)
     where
-      go : Dec (s < r) → Dec (s ≡ r) → Fine (chosen ws bs r c s)
+      go : Dec (s < r) → Dec (s ≡ r) → ActionOrNone (chosen ws bs r c s)
       go (yes h) d = rw split-before (u s h .1)
       go (no h) (yes e) = rw split-here (inr (subst (λ (p : ℕ). c < actionCount ws p) (sym e) k))
       go (no h) (no d) = let after : r < s = omega arith in rw split-after (inr (best-at-below ws s ok l))

@@ -20,7 +20,7 @@ walk-same act f g (suc n) p reach h =
     (ap (λ (bs : Policy). byteOf (isIn p reach) (g p) ∷ bs)
     (walk-same act f g n (suc p) (onward act p (byteOf (isIn p reach) (g p)) reach) (λ s k l. h s (omega arith) (omega arith))))
 
--- the walk by lowest best actions
+-- `greedy` is the walk by lowest best actions
 pub walk-greedy : (D : ℕ) (act : ℕ → ℕ → Action) (opts : ℕ → List ℕ) (togo : ℕ → ℕ) (n p : ℕ) (reach : List ℕ)
     → greedy D act opts togo n p reach ≡ walkBy act (λ s. bestOf (through D act opts (togo s) s) (opts s)) n p reach
 unfolding best

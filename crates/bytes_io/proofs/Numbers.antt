@@ -1,20 +1,20 @@
 -- Numbers as bytes: what is written reads back, and what is read is what would be written.
 -- Assumes nothing.
-use mathlib.Core.Path.{_≡_, refl, sym, ap, _∙_}
+use mathlib.Core.Path.{_≡_, refl, ap, _∙_}
 use mathlib.Core.Bool.{Bool, true, false, cond, _&&_}
 use mathlib.Core.List.{List, [], _∷_, _++_, append-assoc}
 use Prim.Native.Nat.{ℕ, zero, suc, _+_, _*_, _-_, _^_, _/_, _%_, _≤_, _<_}
 use native.Mathlib.Nat.{pow-suc, div-lt-iff-lt-mul, mod-add-div, suc-inj, zero-add}
 use native.Mathlib.Omega.{arith}
-use borrow.Author.Tests.{lt-ltb, le-ltb, ltb-true, ltb-false}
+use borrow.Author.Tests.{lt-ltb, le-ltb, ltb-true}
 use lib.Dec.{T, ltb, eqb}
 use lib.IntN.{ℤ, pos, negsuc, natAbs, _-ℤ_}
 use lib.Signed.{mag, ltZ, nonNeg}
-use lib.ListN.{length, take, drop, getD, length-append}
+use lib.ListN.{length, take, drop, getD}
 use lib.Seq.{length-take-le, take-at, drop-at, drop-drop}
 use Rattle.model.specs.Lists.{forEach, same}
 use Rattle.model.specs.Bytes.{bytes, signedBytes, fromBytes, signed, wordsOf}
-use Rattle.laws.specs.Members.{In, Every}
+use Rattle.laws.specs.Members.{Every}
 use Rattle.bytes_io.specs.Slices.{complement}
 use Rattle.bytes_io.proofs.Parts.{part-step}
 
@@ -54,6 +54,20 @@ same-low-step r at i n y h k = rw (part-step r i n (at + i) (at + (i + 1)) 0 h (
 abbrev pub Bytes : List ℕ → Type 0
 Bytes bs = Every (λ b. b < 256) bs
 
+pub all-bytes : (bs : List ℕ) → ((i : ℕ) → getD bs i 0 < 256) → Bytes bs
+all-bytes [] h = tt
+all-bytes (b ∷ bs) h = (h 0, all-bytes bs (λ i. h (suc i)))
+
+pub bytes-take : (n : ℕ) (bs : List ℕ) → Bytes bs → Bytes (take n bs)
+bytes-take zero bs h = tt
+bytes-take (suc n) [] h = tt
+bytes-take (suc n) (b ∷ bs) h = (h .0, bytes-take n bs (h .1))
+
+pub bytes-drop : (n : ℕ) (bs : List ℕ) → Bytes bs → Bytes (drop n bs)
+bytes-drop zero bs h = h
+bytes-drop (suc n) [] h = tt
+bytes-drop (suc n) (b ∷ bs) h = bytes-drop n bs (h .1)
+
 pub from-below : (bs : List ℕ) → Bytes bs → fromBytes bs < 256 ^ length bs
 from-below [] h = omega arith
 from-below (b ∷ bs) h = rw pow-suc (omega (arith, h .0, from-below bs (h .1)))
@@ -67,6 +81,9 @@ bytes-read (suc n) (b ∷ bs) e h =
     let m : (b + 256 * fromBytes bs) % 256 ≡ b = omega (arith, h .0) in
     let d : (b + 256 * fromBytes bs) / 256 ≡ fromBytes bs = omega (arith, h .0) in
     rw (m, d, bytes-read n bs (suc-inj e) (h .1))
+
+pub bytes-front : (n : ℕ) (bs : List ℕ) → n ≤ length bs → Bytes bs → bytes n (fromBytes (take n bs)) ≡ take n bs
+bytes-front n bs l h = bytes-read n (take n bs) (length-take-le n bs l) (bytes-take n bs h)
 
 -- four bytes of a slice
 pub four-bytes : (r : List ℕ) (at : ℕ) → at + 4 ≤ length r
@@ -96,18 +113,14 @@ pub complement-neg : (most : ℕ) (x : ℤ) → ltZ x (pos 0) ≡ true → most 
 complement-neg most (pos n) e = absurd (omega (arith, ltb-true n 0 e))
 complement-neg most (negsuc n) e = refl
 
-pub record NotNegative (most : ℕ) (x : ℤ) : Type 0 where
-  pub sign : T (nonNeg x)
-  pub size : natAbs x ≡ mag x
-  pub is : natAbs x ≡ complement most x
+pub complement-pos : (most : ℕ) (x : ℤ) → T (nonNeg x) → natAbs x ≡ complement most x
+complement-pos most (pos n) t = refl
+complement-pos most (negsuc n) t = absurd t
 
-pub complement-pos : (most : ℕ) (x : ℤ) → ltZ x (pos 0) ≡ false → NotNegative most x
-complement-pos most (pos n) e = record { sign = tt; size = refl; is = refl }
-complement-pos most (negsuc n) e = let z : _≡_ {A = ℕ} 0 1 = cc in absurd (omega arith)
-
-pub signed-complement : (n : ℕ) (z : ℤ) → signedBytes n z ≡ bytes n (complement (256 ^ n - 1) z)
-signed-complement n (pos x) = refl
-signed-complement n (negsuc x) = ap (bytes n) (omega arith)
+-- the bytes of the complement are those of the signed number
+pub complement-bytes : (n : ℕ) (z : ℤ) → bytes n (complement (256 ^ n - 1) z) ≡ signedBytes n z
+complement-bytes n (pos x) = refl
+complement-bytes n (negsuc x) = ap (bytes n) (omega arith)
 
 pub read-signed : (z : ℤ) → mag z < 2 ^ 31 → signed (fromBytes (signedBytes 4 z)) ≡ z
 read-signed (pos x) h = rw (read-bytes 4 x (omega arith), lt-ltb x 2147483648 h)

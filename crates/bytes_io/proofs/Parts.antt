@@ -1,10 +1,10 @@
 -- Parts of a slice, written or compared one after another.
 -- Assumes nothing.
-use mathlib.Core.Path.{_≡_, refl, sym, ap, _∙_}
-use mathlib.Core.Bool.{true, _&&_}
+use mathlib.Core.Path.{_≡_, refl, sym, _∙_}
+use mathlib.Core.Bool.{Bool, true, _&&_}
 use mathlib.Core.List.{List, [], _∷_, _++_, append-assoc}
-use Prim.Native.Nat.{ℕ, zero, suc, _+_, _*_, _-_, _≤_, _<_}
-use native.Mathlib.Nat.{zero-add, add-assoc, mul-zero, mul-suc, mul-le-mul-left}
+use Prim.Native.Nat.{ℕ, suc, _+_, _*_, _-_, _≤_, _<_}
+use native.Mathlib.Nat.{add-zero, zero-add, add-assoc, mul-zero, mul-suc, mul-le-mul-left}
 use native.Mathlib.Numerals.{add-one}
 use native.Mathlib.Omega.{arith}
 use lib.Dec.{eqb}
@@ -71,47 +71,66 @@ pub same-bytes-step : (r : List ℕ) (at : ℕ) (src : List ℕ) (i n : ℕ) →
 same-bytes-step r at src i n h k l =
     rw (part-step r i n (at + i) (at + (i + 1)) 0 h (omega arith) (omega arith), part-step src i n i (i + 1) 0 h (omega arith) refl)
 
--- ---- numbers of w bytes, one for each element
+-- ---- w bytes for each element
 
-module _ {A : Type 0} (f : A → List ℕ) (xs : List A) (k : ℕ) where
-  -- those of the elements from index i on, up to index k
-  abbrev pub rest : ℕ → List ℕ
+pub length-each : {A : Type 0} (w : ℕ) (f : A → List ℕ) → ((a : A) → length (f a) ≡ w) → (xs : List A) → length (forEach f xs) ≡ w * length xs
+length-each w f sized [] = sym (mul-zero w)
+length-each w f sized (x ∷ xs) = rw (length-append, sized x, length-each w f sized xs, mul-suc) (omega arith)
+
+module _ {A : Type 0} (w : ℕ) (f : A → List ℕ) (xs : List A) (k at : ℕ) where
+  -- the bytes of the elements from index i on, up to index k
+  abbrev rest : ℕ → List ℕ
   rest i = forEach f (take (k - i) (drop i xs))
 
-  module _ (w i : ℕ) (h : k ≤ i) where
+  -- the slice `o` once those are written too, where the bytes of the first element are at index `at`
+  abbrev pub finished : List ℕ → ℕ → List ℕ
+  finished o i = written o (at + w * i) (w * (k - i)) (rest i)
+
+  -- does the slice `r` have them there?
+  abbrev pub agrees : List ℕ → ℕ → Bool
+  agrees r i = same (take (w * (k - i)) (drop (at + w * i) r)) (rest i)
+
+  pub finished-start : (o : List ℕ) → written o at (w * k) (forEach f (take k xs)) ≡ finished o 0
+  finished-start o = let z : k - 0 ≡ k = omega arith in rw (z, mul-zero w, add-zero at)
+
+  pub agrees-start : (r : List ℕ) → same (take (w * k) (drop at r)) (forEach f (take k xs)) ≡ agrees r 0
+  agrees-start r = let z : k - 0 ≡ k = omega arith in rw (z, mul-zero w, add-zero at)
+
+  module _ (i : ℕ) (h : k ≤ i) where
     none : k - i ≡ 0
     none = omega arith
 
-    pub write-end : (o : List ℕ) (p : ℕ) → written o p (w * (k - i)) (rest i) ≡ o
-    write-end o p = rw (none, mul-zero w) (written-none o p)
+    pub finished-end : (o : List ℕ) → finished o i ≡ o
+    finished-end o = rw (none, mul-zero w) (written-none o (at + w * i))
 
-    pub same-end : (r : List ℕ) (p : ℕ) → same (take (w * (k - i)) (drop p r)) (rest i) ≡ true
-    same-end r p = rw (none, mul-zero w)
+    pub agrees-end : (r : List ℕ) → agrees r i ≡ true
+    agrees-end r = rw (none, mul-zero w)
 
-module _ {A : Type 0} (w : ℕ) (f : A → List ℕ) (sized : (a : A) → length (f a) ≡ w) (xs : List A) (d : A) (i k : ℕ) (h : i < k) (l : k ≤ length xs) where
-  rest-step : rest f xs k i ≡ f (getD xs i d) ++ rest f xs k (i + 1)
-  rest-step = rw (part-step xs i k i (i + 1) d h (omega arith) refl)
+  module _ (sized : (a : A) → length (f a) ≡ w) (d : A) (i : ℕ) (h : i < k) (l : k ≤ length xs) where
+    rest-step : rest i ≡ f (getD xs i d) ++ rest (i + 1)
+    rest-step = rw (part-step xs i k i (i + 1) d h (omega arith) refl)
 
-  count-step : w * (k - i) ≡ w + w * (k - (i + 1))
-  count-step = let e : k - i ≡ suc (k - (i + 1)) = omega arith in rw (e, mul-suc) (omega arith)
+    count-step : w * (k - i) ≡ w + w * (k - (i + 1))
+    count-step = let e : k - i ≡ suc (k - (i + 1)) = omega arith in rw (e, mul-suc) (omega arith)
 
-  index-step : (at : ℕ) → at + w * i + w ≡ at + w * (i + 1)
-  index-step at = rw (add-one i, mul-suc) (omega arith)
+    index-step : at + w * i + w ≡ at + w * (i + 1)
+    index-step = rw (add-one i, mul-suc) (omega arith)
 
-  inside : (at n : ℕ) → at + w * k ≤ n → at + w * i + w ≤ n
-  inside at n m = omega (arith, index-step at, mul-le-mul-left {m = i + 1} {n = k} w (omega arith))
+    inside : (n : ℕ) → at + w * k ≤ n → at + w * i + w ≤ n
+    inside n m = omega (arith, index-step, mul-le-mul-left {m = i + 1} {n = k} w (omega arith))
 
-  pub write-step : (o : List ℕ) (at : ℕ) → at + w * k ≤ length o
-      → written o (at + w * i) (w * (k - i)) (rest f xs k i)
-      ≡ written (written o (at + w * i) w (f (getD xs i d))) (at + w * (i + 1)) (w * (k - (i + 1))) (rest f xs k (i + 1))
-  write-step o at m =
-      rw (rest-step, count-step, ← index-step at)
-      (sym (written-join o (at + w * i) w (f (getD xs i d)) (sized (getD xs i d)) (inside at (length o) m) (w * (k - (i + 1))) (rest f xs k (i + 1))))
+    pub finished-step : (o q : List ℕ) → at + w * k ≤ length o → q ≡ written o (at + w * i) w (f (getD xs i d))
+        → finished o i ≡ finished q (i + 1)
+    finished-step o q m e =
+        rw (rest-step, count-step, ← index-step, e)
+        (sym (written-join o (at + w * i) w (f (getD xs i d)) (sized (getD xs i d)) (inside (length o) m) (w * (k - (i + 1))) (rest (i + 1))))
 
-  pub same-step : (r : List ℕ) (at : ℕ) → at + w * k ≤ length r
-      → same (take (w * (k - i)) (drop (at + w * i) r)) (rest f xs k i)
-      ≡ (same (take w (drop (at + w * i) r)) (f (getD xs i d)) && same (take (w * (k - (i + 1))) (drop (at + w * (i + 1)) r)) (rest f xs k (i + 1)))
-  same-step r at m =
-      rw (rest-step, count-step, take-add w (w * (k - (i + 1))) (drop (at + w * i) r), drop-drop w (at + w * i) r, index-step at)
-      (same-++ (take w (drop (at + w * i) r)) (take (w * (k - (i + 1))) (drop (at + w * (i + 1)) r)) (f (getD xs i d)) (rest f xs k (i + 1))
-          (length-take-le w (drop (at + w * i) r) (rw length-drop (omega (arith, inside at (length r) m))) ∙ sym (sized (getD xs i d))))
+    pub agrees-step : (r : List ℕ) → at + w * k ≤ length r
+        → agrees r i ≡ (same (take w (drop (at + w * i) r)) (f (getD xs i d)) && agrees r (i + 1))
+    agrees-step r m =
+        rw (rest-step, count-step, take-add w (w * (k - (i + 1))) (drop (at + w * i) r), drop-drop w (at + w * i) r, index-step)
+        (same-++ (take w (drop (at + w * i) r)) (take (w * (k - (i + 1))) (drop (at + w * (i + 1)) r)) (f (getD xs i d)) (rest (i + 1)) lengths)
+      where
+        lengths : length (take w (drop (at + w * i) r)) ≡ length (f (getD xs i d))
+        lengths =
+            length-take-le w (drop (at + w * i) r) (rw length-drop (omega (arith, inside (length r) m))) ∙ sym (sized (getD xs i d))

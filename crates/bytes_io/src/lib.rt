@@ -1,6 +1,5 @@
 // Numbers in byte slices, low byte first: read, written and compared.
 ghost use mathlib.Core.Path.{_≡_};
-ghost use mathlib.Core.List.{_++_};
 ghost use Prim.Native.Nat.{_+_, _*_, _<_, _≤_};
 ghost use lib.Signed.{mag};
 ghost use lib.ListN.{length, take, drop};
@@ -11,6 +10,7 @@ ghost use Rattle.bytes_io.specs.Slices.{written, complement};
 
 // ---- reading
 
+// A byte as a number of 64 bits.
 fn wide(x: u8) -> u64
     ensures { λ q. ⌜ (q ≡ x) × (q < 256) ⌝ }
 {
@@ -61,7 +61,7 @@ pub fn read_words(r: &[u8], at: usize, n: usize, out: &mut [i32])
     }
 }
 
-// ---- writing
+// ---- writing, from index `at` on
 
 // The n low bytes of x.
 fn write_low(out: &mut [u8], at: usize, n: usize, x: u64)
@@ -153,7 +153,7 @@ pub fn write_bytes(out: &mut [u8], at: usize, src: &[u8], n: usize)
 
 // ---- comparing
 
-// Do the n bytes from index `at` on say the n low bytes of x?
+// Are the n bytes from index `at` on the n low bytes of x?
 fn same_low(r: &[u8], at: usize, n: usize, x: u64) -> bool
     requires { ⌜ at + n ≤ length (now r) ⌝ }
     ensures { λ q. ⌜ q ≡ same (take n (drop at (now (r .entry)))) (bytes n x) ⌝ }
@@ -170,6 +170,7 @@ fn same_low(r: &[u8], at: usize, n: usize, x: u64) -> bool
     true
 }
 
+// Are the eight bytes from index `at` on those of the cost x?
 fn same_cost(r: &[u8], at: usize, x: i64) -> bool
     requires { ⌜ at + 8 ≤ length (now r) ⌝ }
     ensures { λ q. ⌜ q ≡ same (take 8 (drop at (now (r .entry)))) (signedBytes 8 x) ⌝ }

@@ -4,19 +4,20 @@ use mathlib.Core.Path.{_≡_, refl, sym, ap, ap₂, _∙_, subst}
 use mathlib.Core.Bool.{Bool, true, false, cond}
 use mathlib.Core.Logic.{_⊎_, inl, inr}
 use mathlib.Core.List.{List, [], _∷_, _++_, map, append-assoc, append-nil, map-append}
-use Prim.Native.Nat.{ℕ, zero, suc, _+_, _*_, _-_, _≤_, _<_}
+use Prim.Native.Nat.{ℕ, suc, _+_, _*_, _-_, _≤_, _<_}
 use native.Mathlib.Nat.{add-zero}
 use native.Mathlib.Numerals.{add-one}
 use native.Mathlib.Decide.{decLt}
 use native.Mathlib.Omega.{arith}
-use lib.IntN.{ℤ, pos}
-use lib.ListN.{length, getD, set, take, drop, length-append, length-map, length-set}
+use lib.IntN.{pos}
+use lib.ListN.{length, getD, set, take, drop, length-append, length-map, length-set, drop-of-length-le}
 use lib.Seq.{drop-cons, take-suc, take-all, take-at, drop-at, length-take-le, getD-set-same, getD-set-other, paste}
 use Rattle.model.specs.Lists.{insert}
-use Rattle.laws.specs.Members.{In, Every, every-in, ++-in, Apart}
+use Rattle.laws.specs.Members.{In, every-in, ++-in}
 use Rattle.laws.specs.Sorting.{in-take}
 use Rattle.pool.specs.declared.Pool.{Pool}
-use Rattle.pool.specs.Entries.{Entry, row, entryAt, entries, Slots, Formed, earlierEntry, earlierThan, firstYes, Spare, movedUp}
+use Rattle.stored.specs.Entry.{Entry, earlierEntry}
+use Rattle.pool.specs.Entries.{entryAt, entries, Formed, earlierThan, firstYes, Inserted, Spare, movedUp}
 use Rattle.pool.proofs.Moves.{between, before-long, between-long, first-n, up-slots, up-first, slot-new, slot-low}
 use Rattle.pool.proofs.Rows.{written-long, row-same, row-other}
 
@@ -30,6 +31,9 @@ module _ (test : ℕ → Bool) where
       go : (t : Bool) → firstYes test xs ≤ length xs → cond t 0 (suc (firstYes test xs)) ≤ suc (length xs)
       go true h = omega arith
       go false h = omega arith
+
+  pub yes-none : (xs : List ℕ) (i : ℕ) → length xs ≤ i → i + firstYes test (drop i xs) ≡ i
+  yes-none xs i h = rw (drop-of-length-le xs {i = i} h) (add-zero i)
 
   -- the search for it, one number at a time
   module _ (xs : List ℕ) (i : ℕ) (h : i < length xs) where
@@ -68,47 +72,67 @@ kept a b t e n k h l (inl z) =
 kept a b t e n k h l (inr z) =
     ap (take k) (sym (append-assoc a (e ∷ b) t)) ∙ take-at (a ++ (e ∷ b)) t k (simp length-append (omega arith))
 
-module _ (p : Pool) (s k : ℕ) (e : Entry) (ok : Formed p) (short : s ≤ 64) (all : length (e .plan) ≡ s) (few : p .count ≤ k) (most : k ≤ 64) where
+-- the pool with the new entry in the slot of place n, which moves up to place i
+abbrev pub filled : Pool → ℕ → Entry → ℕ → ℕ → Pool
+filled p s e i n =
+    let j = getD (p .order) n 0 in
+    record {
+      costs = set (p .costs) j (e .cost);
+      plans = paste (p .plans) (j * 64) (e .plan) s;
+      splits = set (p .splits) j (e .split);
+      barred = set (p .barred) j (e .mask);
+      order = movedUp i n (p .order);
+      count = n + 1;
+    }
+
+-- as many wait as the pool says
+waiting-long : (p : Pool) → Formed p → length (take (p .count) (p .order)) ≡ p .count
+waiting-long p ok = length-take-le (p .count) (p .order) (omega (arith, ok .count-high, ok .slots .long))
+
+pub entries-long : (s : ℕ) (p : Pool) → Formed p → length (entries s p) ≡ p .count
+entries-long s p ok = length-map (take (p .count) (p .order)) (entryAt s p) ∙ waiting-long p ok
+
+-- what `insert` requires
+abbrev pub Ready : Pool → ℕ → ℕ → List ℕ → Type 0
+Ready p s k bs = Formed p × (1 ≤ s) × (s ≤ 64) × (1 ≤ k) × (k ≤ 64) × (p .count ≤ k) × (length bs ≡ s)
+
+module _ (p : Pool) (s k : ℕ) (e : Entry) (ready : Ready p s k (e .plan)) where
+  abbrev ok : Formed p
+  ok = ready .0
+
   abbrev o : List ℕ
   o = p .order
 
   abbrev waiting : List ℕ
   waiting = take (p .count) o
 
-  waiting-long : length waiting ≡ p .count
-  waiting-long = length-take-le (p .count) o (omega (arith, ok .count-high, ok .slots .long))
-
   module _ (i : ℕ) (place : i ≡ firstYes (earlierThan (e .cost) (e .plan) s (p .costs) (p .plans)) waiting) where
     place-most : i ≤ p .count
-    place-most = omega (arith, place, waiting-long, yes-most (earlierThan (e .cost) (e .plan) s (p .costs) (p .plans)) waiting)
+    place-most = omega (arith, place, waiting-long p ok, yes-most (earlierThan (e .cost) (e .plan) s (p .costs) (p .plans)) waiting)
 
     inserted : insert earlierEntry e (entries s p) ≡ map (entryAt s p) (take i waiting) ++ (e ∷ map (entryAt s p) (drop i waiting))
     inserted =
         insert-at earlierEntry (entryAt s p) e waiting
         ∙ ap (λ (n : ℕ). map (entryAt s p) (take n waiting) ++ (e ∷ map (entryAt s p) (drop n waiting))) (sym place)
 
-    -- it comes after k others
-    pub unchanged : i ≡ k → entries s p ≡ take k (insert earlierEntry e (entries s p))
+    -- it comes after k others, and is not kept
+    pub unchanged : i ≡ k → Inserted s k e p p
     unchanged h =
-        sym (ap (take k) inserted ∙ ap (λ (xs : List ℕ). take k (map (entryAt s p) xs ++ (e ∷ map (entryAt s p) (drop i waiting))))
-        (take-all i waiting (omega (arith, waiting-long)))
-        ∙ take-at (entries s p) (e ∷ map (entryAt s p) (drop i waiting)) k (length-map waiting (entryAt s p) ∙ omega (arith, waiting-long, place-most)))
+        record {
+          formed = ok;
+          count-high = ready .5;
+          kept = sym (ap (take k) inserted
+              ∙ ap (λ (xs : List ℕ). take k (map (entryAt s p) xs ++ (e ∷ map (entryAt s p) (drop i waiting))))
+              (take-all i waiting (omega (arith, waiting-long p ok)))
+              ∙ take-at (entries s p) (e ∷ map (entryAt s p) (drop i waiting)) k (omega (arith, entries-long s p ok, place-most)));
+        }
 
     module _ (n : ℕ) (spare : (n < k) × Spare n (p .count) k) (new : i ≡ k → ⊥) where
       abbrev j : ℕ
       j = getD o n 0
 
-      -- the pool with the new entry in slot j
-      abbrev pub filled : Pool
-      filled =
-          record {
-            costs = set (p .costs) j (e .cost);
-            plans = paste (p .plans) (j * 64) (e .plan) s;
-            splits = set (p .splits) j (e .split);
-            barred = set (p .barred) j (e .mask);
-            order = movedUp i n o;
-            count = n + 1;
-          }
+      abbrev q : Pool
+      q = filled p s e i n
 
       inside : n < length o
       inside = omega (arith, ok .slots .long)
@@ -116,8 +140,8 @@ module _ (p : Pool) (s k : ℕ) (e : Entry) (ok : Formed p) (short : s ≤ 64) (
       low : j < 64
       low = slot-low (ok .slots) n (omega arith)
 
-      early : i ≤ n
-      early = go (spare .1)
+      pub place-before : i ≤ n
+      place-before = go (spare .1)
         where
           go : Spare n (p .count) k → i ≤ n
           go (inl h) = omega (arith, place-most)
@@ -127,42 +151,42 @@ module _ (p : Pool) (s k : ℕ) (e : Entry) (ok : Formed p) (short : s ≤ 64) (
               after-k (yes l) = omega arith
               after-k (no l) = absurd (new (omega (arith, place-most)))
 
-      pub filled-formed : Formed filled
+      filled-formed : Formed q
       filled-formed =
           record {
             costs-long = length-set (p .costs) j (e .cost) ∙ ok .costs-long;
-            plans-long = written-long (p .plans) j s (e .plan) (ok .plans-long) low short all;
+            plans-long = written-long (p .plans) j s (e .plan) (ok .plans-long) low (ready .2) (ready .6);
             splits-long = length-set (p .splits) j (e .split) ∙ ok .splits-long;
             barred-long = length-set (p .barred) j (e .mask) ∙ ok .barred-long;
             count-high = omega arith;
-            slots = up-slots o i n early inside (ok .slots);
+            slots = up-slots o i n place-before inside (ok .slots);
           }
 
       -- slot j holds the new entry, and every other slot what it held
-      entry-new : entryAt s filled j ≡ e
+      entry-new : entryAt s q j ≡ e
       entry-new =
           λ t. record {
             cost = getD-set-same (p .costs) j (e .cost) (pos 0) (omega (arith, low, ok .costs-long)) t;
-            plan = row-same (p .plans) j s (e .plan) (ok .plans-long) low short all t;
+            plan = row-same (p .plans) j s (e .plan) (ok .plans-long) low (ready .2) (ready .6) t;
             split = getD-set-same (p .splits) j (e .split) 0 (omega (arith, low, ok .splits-long)) t;
             mask = getD-set-same (p .barred) j (e .mask) 0 (omega (arith, low, ok .barred-long)) t;
           }
 
-      entry-old : (z : ℕ) → z < 64 → (z ≡ j → ⊥) → entryAt s filled z ≡ entryAt s p z
+      entry-old : (z : ℕ) → z < 64 → (z ≡ j → ⊥) → entryAt s q z ≡ entryAt s p z
       entry-old z h d =
           λ t. record {
             cost = getD-set-other (p .costs) j z (e .cost) (pos 0) d t;
-            plan = row-other (p .plans) j s (e .plan) (ok .plans-long) low short all z h d t;
+            plan = row-other (p .plans) j s (e .plan) (ok .plans-long) low (ready .2) (ready .6) z h d t;
             split = getD-set-other (p .splits) j z (e .split) 0 d t;
             mask = getD-set-other (p .barred) j z (e .mask) 0 d t;
           }
 
       -- those of the first n slots are as they were
-      entries-old : (xs : List ℕ) → ((z : ℕ) → In z xs → In z (take n o)) → map (entryAt s filled) xs ≡ map (entryAt s p) xs
+      entries-old : (xs : List ℕ) → ((z : ℕ) → In z xs → In z (take n o)) → map (entryAt s q) xs ≡ map (entryAt s p) xs
       entries-old xs h =
-          map-same (entryAt s filled) (entryAt s p) xs
+          map-same (entryAt s q) (entryAt s p) xs
           (λ z m. entry-old z (every-in (λ (x : ℕ). x < 64) o (ok .slots .low) z (in-take n z o (h z m)))
-          (λ q. slot-new o n inside (ok .slots .apart) (subst (λ (x : ℕ). In x (take n o)) q (h z m))))
+          (λ same. slot-new o n inside (ok .slots .apart) (subst (λ (x : ℕ). In x (take n o)) same (h z m))))
 
       -- what waited, around place i
       around : (t : List ℕ) → waiting ≡ take i o ++ (between o i n ++ t) → (map (entryAt s p) t ≡ []) ⊎ (n + 1 ≡ k)
@@ -171,33 +195,36 @@ module _ (p : Pool) (s k : ℕ) (e : Entry) (ok : Formed p) (short : s ≤ 64) (
           ap (take k)
           (inserted
           ∙ ap₂ (λ (xs ys : List ℕ). map (entryAt s p) xs ++ (e ∷ map (entryAt s p) ys))
-          (ap (take i) w ∙ take-at (take i o) (between o i n ++ t) i (before-long o i n early inside))
-          (ap (drop i) w ∙ drop-at (take i o) (between o i n ++ t) i (before-long o i n early inside))
+          (ap (take i) w ∙ take-at (take i o) (between o i n ++ t) i (before-long o i n place-before inside))
+          (ap (drop i) w ∙ drop-at (take i o) (between o i n ++ t) i (before-long o i n place-before inside))
           ∙ ap (λ (xs : List Entry). map (entryAt s p) (take i o) ++ (e ∷ xs)) (map-append (entryAt s p) (between o i n) t))
           ∙ kept (map (entryAt s p) (take i o)) (map (entryAt s p) (between o i n)) (map (entryAt s p) t) e n k
           (omega (
             arith,
             length-map (take i o) (entryAt s p),
             length-map (between o i n) (entryAt s p),
-            before-long o i n early inside,
-            between-long o i n early inside,
-            early,
+            before-long o i n place-before inside,
+            between-long o i n place-before inside,
+            place-before,
           )) (spare .0) h
 
       by-spare : Spare n (p .count) k
           → take k (insert earlierEntry e (entries s p)) ≡ map (entryAt s p) (take i o) ++ (e ∷ map (entryAt s p) (between o i n))
-      by-spare (inl h) = around [] (rw (← h, append-nil (between o i n)) (first-n o i n early inside)) (inl refl)
+      by-spare (inl h) = around [] (rw (← h, append-nil (between o i n)) (first-n o i n place-before inside)) (inl refl)
       by-spare (inr h) =
           around (j ∷ [])
-          (rw (← h .0, add-one, take-suc o n 0 inside, first-n o i n early inside) (append-assoc (take i o) (between o i n) (j ∷ [])))
+          (rw (← h .0, add-one, take-suc o n 0 inside, first-n o i n place-before inside) (append-assoc (take i o) (between o i n) (j ∷ [])))
           (inr (h .0 ∙ h .1))
 
-      pub filled-entries : entries s filled ≡ take k (insert earlierEntry e (entries s p))
+      filled-entries : entries s q ≡ take k (insert earlierEntry e (entries s p))
       filled-entries =
-          ap (map (entryAt s filled)) (up-first o i n early inside)
-          ∙ map-append (entryAt s filled) (take i o) (j ∷ between o i n)
+          ap (map (entryAt s q)) (up-first o i n place-before inside)
+          ∙ map-append (entryAt s q) (take i o) (j ∷ between o i n)
           ∙ ap₂ _++_
-          (entries-old (take i o) (λ z m. rw (first-n o i n early inside) (++-in z (take i o) (between o i n) (inl m))))
+          (entries-old (take i o) (λ z m. rw (first-n o i n place-before inside) (++-in z (take i o) (between o i n) (inl m))))
           (ap₂ _∷_ entry-new
-          (entries-old (between o i n) (λ z m. rw (first-n o i n early inside) (++-in z (take i o) (between o i n) (inr m)))))
+          (entries-old (between o i n) (λ z m. rw (first-n o i n place-before inside) (++-in z (take i o) (between o i n) (inr m)))))
           ∙ sym (by-spare (spare .1))
+
+      pub filled-inserted : Inserted s k e p q
+      filled-inserted = record { formed = filled-formed; count-high = omega arith; kept = filled-entries }

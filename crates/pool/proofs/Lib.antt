@@ -2,3 +2,4 @@ pub mod Lists
 pub mod Moves
 pub mod Rows
 pub mod Insertion
+pub mod Removal

@@ -1,22 +1,24 @@
 -- Laws of lists: a front that is copied, an element at an index, numbers in a row.
 -- Assumes nothing.
 use mathlib.Core.Path.{_≡_, refl, ap, _∙_}
-use mathlib.Core.Logic.{_⊎_, inl, inr}
+use mathlib.Core.Logic.{inl, inr}
 use mathlib.Core.List.{List, [], _∷_, _++_, append-nil}
 use Prim.Native.Nat.{ℕ, zero, suc, _+_, _≤_, _<_}
-use native.Mathlib.Nat.{zero-add, add-zero}
+use native.Mathlib.Nat.{zero-add}
 use native.Mathlib.Numerals.{add-one}
 use native.Mathlib.Omega.{arith}
-use lib.ListN.{length, getD, set, take, drop, length-append, length-drop, List·getD-append, drop-of-length-le}
-use lib.Seq.{take-all, take-suc, append-snoc, set-at, length-take-le, getD-take, getD-drop, getD-append-add, paste, paste-suc, length-paste-head}
+use lib.ListN.{length, getD, set, take, drop, List·getD-append, drop-of-length-le}
+use lib.Seq.{take-all, take-suc, append-snoc, set-at, length-take-le, getD-take, getD-append-add, paste-suc}
 use Rattle.model.specs.Lists.{upFrom}
-use Rattle.laws.specs.Members.{In, Every, Apart, Rising, below-in}
+use Rattle.laws.specs.Members.{In, Apart, Rising, below-in}
 
 module _ {A : Type 0} where
   -- one element more of a front that is copied
-  pub front-more : (d s : List A) (n : ℕ) (z : A) → n < length d → n < length s → set (take n s ++ drop n d) n (getD s n z) ≡ take (n + 1) s ++ drop (n + 1) d
+  pub front-more : (d s : List A) (n : ℕ) (z : A) → n < length d → n < length s
+      → set (take n s ++ drop n d) n (getD s n z) ≡ take (n + 1) s ++ drop (n + 1) d
   front-more d s n z h k = rw add-one (simp zero-add at (paste-suc d 0 s n z (rw zero-add h) k))
 
+  -- all of it
   pub copied-all : (d s : List A) (n : ℕ) → length d ≤ n → length s ≤ n → take n s ++ drop n d ≡ s
   copied-all d s n h k = rw (take-all n s k, drop-of-length-le d {i = n} h) (append-nil s)
 

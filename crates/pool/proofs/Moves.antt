@@ -1,15 +1,15 @@
 -- The slots in another order: the same slots, each once.
 -- Assumes nothing.
-use mathlib.Core.Path.{_≡_, refl, sym, ap, _∙_, subst}
+use mathlib.Core.Path.{_≡_, sym, ap, _∙_, subst}
 use mathlib.Core.Logic.{_⊎_, inl, inr}
 use mathlib.Core.List.{List, [], _∷_, _++_, append-assoc}
-use Prim.Native.Nat.{ℕ, zero, suc, _+_, _-_, _≤_, _<_}
+use Prim.Native.Nat.{ℕ, suc, _+_, _-_, _≤_, _<_}
 use native.Mathlib.Numerals.{add-one}
 use native.Mathlib.Omega.{arith}
 use lib.ListN.{length, getD, set, take, drop, length-append, length-drop, take-append-drop}
 use lib.Seq.{drop-cons, split-at, drop-drop, take-add, take-at, length-take-le, getD-drop, set-at}
 use Rattle.model.specs.Lists.{upFrom}
-use Rattle.laws.specs.Members.{In, Every, every-in, in-every, in-++, ++-in, Apart, upFrom-in, upFrom-rising}
+use Rattle.laws.specs.Members.{In, every-in, in-every, in-++, ++-in, Apart, upFrom-in, upFrom-rising}
 use Rattle.pool.specs.Entries.{Slots, movedUp, movedBack}
 use Rattle.pool.proofs.Lists.{set-last, front-more, front-at, after-front, at-in, upFrom-long, rising-apart}
 

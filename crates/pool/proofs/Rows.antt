@@ -1,17 +1,17 @@
 -- The bytes of the slots: one row is written, and the others stay.
 -- Assumes nothing.
 use mathlib.Core.Path.{_≡_, refl, sym, ap, _∙_}
-use mathlib.Core.Bool.{Bool, true, false, not, _&&_, _||_}
+use mathlib.Core.Bool.{Bool, true, false, _&&_, _||_}
 use mathlib.Core.Logic.{_⊎_, inl, inr}
-use mathlib.Core.List.{List, [], _∷_, _++_, append-assoc}
-use Prim.Native.Nat.{ℕ, zero, suc, _+_, _*_, _-_, _≤_, _<_}
+use mathlib.Core.List.{List, _++_, append-assoc}
+use Prim.Native.Nat.{ℕ, _+_, _*_, _-_, _≤_, _<_}
 use native.Mathlib.Numerals.{add-one}
 use native.Mathlib.Decide.{decLt}
 use native.Mathlib.Omega.{arith}
-use borrow.Author.Tests.{lt-ltb, le-ltb, eq-eqb, ne-eqb}
+use borrow.Author.Tests.{le-ltb, eq-eqb, ne-eqb}
 use lib.Dec.{ltb, eqb}
-use lib.ListN.{length, getD, take, drop, length-append, length-drop, List·getD-append, drop-of-length-le}
-use lib.Seq.{take-all, drop-cons, drop-append-le, drop-append-seam, drop-at, take-at, length-take-le, length-paste, length-paste-head, getD-take, getD-drop, ext-getD, paste}
+use lib.ListN.{length, getD, take, drop, length-drop, List·getD-append, drop-of-length-le}
+use lib.Seq.{take-all, drop-cons, drop-at, take-at, length-take-le, length-paste, length-paste-head, getD-take, getD-drop, ext-getD, paste}
 use Rattle.model.specs.Order.{lower}
 use Rattle.pool.specs.Entries.{row}
 use Rattle.pool.proofs.Lists.{front-at, after-front}

@@ -8,18 +8,13 @@ use Prim.Native.Nat.{ℕ, suc, _+_, _*_, _-_, _≤_, _<_}
 use lib.IntN.{ℤ, pos}
 use lib.Signed.{ltZ}
 use lib.ListN.{length, getD, take, drop}
+use Rattle.model.specs.Lists.{insert}
 use Rattle.model.specs.Order.{lower}
 use Rattle.laws.specs.Members.{Every, Apart}
+use Rattle.stored.specs.Entry.{Entry, earlierEntry}
 use Rattle.pool.specs.declared.Pool.{Pool}
 
 -- ---- entries
-
--- a candidate: its cost, its first policy, the state where it splits from its parent and the set of actions barred there
-pub record Entry : Type 0 where
-  pub cost : ℤ
-  pub plan : List ℕ
-  pub split : ℕ
-  pub mask : ℕ
 
 -- the s bytes of a slot
 abbrev pub row : ℕ → List ℕ → ℕ → List ℕ
@@ -44,6 +39,7 @@ pub record Slots (order : List ℕ) : Type 0 where
   pub low : Every (λ (j : ℕ). j < 64) order
   pub apart : Apart order
 
+-- what holds of every pool
 pub record Formed (p : Pool) : Type 0 where
   pub costs-long : length (p .costs) ≡ 64
   pub plans-long : length (p .plans) ≡ 4096
@@ -52,12 +48,9 @@ pub record Formed (p : Pool) : Type 0 where
   pub count-high : p .count ≤ 64
   pub slots : Slots (p .order)
 
--- ---- their order, which is that of the policies
+-- ---- the place of a new entry
 
-abbrev pub earlierEntry : Entry → Entry → Bool
-earlierEntry e d = ltZ (e .cost) (d .cost) || (not (ltZ (d .cost) (e .cost)) && lower (e .plan) (d .plan))
-
--- is a cost and a plan earlier than those of slot j?
+-- `earlierEntry` by a cost and a plan, and those of slot j
 abbrev pub earlierThan : ℤ → List ℕ → ℕ → List ℤ → List ℕ → ℕ → Bool
 earlierThan x bs s costs plans j = ltZ x (getD costs j (pos 0)) || (not (ltZ (getD costs j (pos 0)) x) && lower bs (row s plans j))
 
@@ -65,6 +58,20 @@ earlierThan x bs s costs plans j = ltZ x (getD costs j (pos 0)) || (not (ltZ (ge
 abbrev pub firstYes : (ℕ → Bool) → List ℕ → ℕ
 firstYes test [] = 0
 firstYes test (x ∷ xs) = cond (test x) 0 (suc (firstYes test xs))
+
+-- ---- a pool and the one that is made of it
+
+-- r is p with the entry e inserted, of which the first k are kept
+pub record Inserted (s k : ℕ) (e : Entry) (p r : Pool) : Type 0 where
+  pub formed : Formed r
+  pub count-high : r .count ≤ k
+  pub kept : entries s r ≡ take k (insert earlierEntry e (entries s p))
+
+-- r is p without the first entry
+pub record Popped (p r : Pool) : Type 0 where
+  pub formed : Formed r
+  pub count-is : r .count + 1 ≡ p .count
+  pub rest : (s : ℕ) → entries s p ≡ firstEntry s p ∷ entries s r
 
 -- ---- changes of the order of the slots
 

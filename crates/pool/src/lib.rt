@@ -1,13 +1,12 @@
 // The candidates that wait in the search, at most 64, in order. The slots are reached through `order`, so that an insertion moves numbers and not
 // plans.
 ghost use mathlib.Core.Path.{_≡_};
-ghost use mathlib.Core.List.{[], _∷_};
+ghost use mathlib.Core.List.{[]};
 ghost use Prim.Native.Nat.{ℕ, _+_, _*_, _<_, _≤_};
 ghost use lib.ListN.{length, take};
 ghost use lib.Seq.{paste};
-ghost use Rattle.model.specs.Lists.{insert};
 ghost use Rattle.model.specs.Order.{lower};
-ghost use Rattle.pool.specs.Entries.{row, firstEntry, entries, Slots, Formed, earlierEntry, earlierThan, firstYes, Spare, movedUp, movedBack};
+ghost use Rattle.pool.specs.Entries.{row, firstEntry, entries, Slots, Formed, earlierThan, firstYes, Inserted, Popped, Spare, movedUp, movedBack};
 
 pub struct Pool {
     // by slot
@@ -43,7 +42,7 @@ fn first_order() -> [usize; 64]
     order
 }
 
-// None waits.
+// The pool in which none waits.
 pub fn empty() -> Pool
     ensures { λ r. ⌜ Formed r × ((s : ℕ) → entries s r ≡ []) ⌝ }
 {
@@ -75,8 +74,15 @@ fn lower_bytes(plans: &[u8; 4096], j: usize, s: usize, plan: &[u8]) -> bool
     false
 }
 
-// Does the candidate come before that of slot j? The bytes count only where the costs are equal.
-fn earlier<'a>(costs: &'a [i64; 64], plans: &'a [u8; 4096], j: usize, s: usize, cost: i64, plan: &[u8]) -> bool
+// Does the candidate come before that of slot j? The bytes decide only where the costs are equal.
+fn earlier<'a>(
+    costs: &'a [i64; 64],
+    plans: &'a [u8; 4096],
+    j: usize,
+    s: usize,
+    cost: i64,
+    plan: &[u8],
+) -> bool
     requires { ⌜ (length (now plans) ≡ 4096) × (j < 64) × (s ≤ 64) × (length (now plan) ≡ s) ⌝ }
     ensures { λ r. ⌜ r ≡ earlierThan cost (now (plan .entry)) s (now (costs .entry)) (now (plans .entry)) j ⌝ }
 {
@@ -91,7 +97,15 @@ fn earlier<'a>(costs: &'a [i64; 64], plans: &'a [u8; 4096], j: usize, s: usize, 
 }
 
 // How many of the first n slots of `order` hold candidates that stay before the new one.
-fn place<'a>(costs: &'a [i64; 64], plans: &'a [u8; 4096], order: &'a [usize; 64], n: usize, s: usize, cost: i64, plan: &[u8]) -> usize
+fn place<'a>(
+    costs: &'a [i64; 64],
+    plans: &'a [u8; 4096],
+    order: &'a [usize; 64],
+    n: usize,
+    s: usize,
+    cost: i64,
+    plan: &[u8],
+) -> usize
     requires { ⌜ (length (now plans) ≡ 4096) × Slots (now order) × (n ≤ 64) × (s ≤ 64) × (length (now plan) ≡ s) ⌝ }
     ensures { λ r. ⌜ r ≡ firstYes (earlierThan cost (now (plan .entry)) s (now (costs .entry)) (now (plans .entry))) (take n (now (order .entry))) ⌝ }
 {
@@ -147,7 +161,7 @@ fn move_back(order: &mut [usize; 64], n: usize)
     order[last] = slot;
 }
 
-// The place of the slot to fill where n wait: that of the first free slot, or the last of k, whose candidate is let go.
+// The place of the slot to fill where n wait: that of the first free slot, or the last of k, whose candidate is not kept.
 fn spare_place(n: usize, k: usize) -> usize
     requires { ⌜ (1 ≤ k) × (n ≤ k) ⌝ }
     ensures { λ r. ⌜ (r < k) × Spare r n k ⌝ }
@@ -161,8 +175,7 @@ fn spare_place(n: usize, k: usize) -> usize
 // The candidate goes in front of the first that it comes before, or to the end. No more than k are kept.
 pub fn insert(p: Pool, k: usize, s: usize, cost: i64, plan: &[u8], split: usize, mask: u8) -> Pool
     requires { ⌜ Formed p × (1 ≤ s) × (s ≤ 64) × (1 ≤ k) × (k ≤ 64) × (p .count ≤ k) × (length (now plan) ≡ s) ⌝ }
-    ensures formed { λ r. ⌜ Formed r × (r .count ≤ k) ⌝ }
-    ensures kept { λ r. ⌜ entries s r ≡ take k (insert earlierEntry (record { cost = cost; plan = now (plan .entry); split = split; mask = mask }) (entries s p)) ⌝ }
+    ensures { λ r. ⌜ Inserted s k (record { cost = cost; plan = now (plan .entry); split = split; mask = mask }) p r ⌝ }
 {
     let n = p.count;
     let i = place(&p.costs, &p.plans, &p.order, n, s, cost, plan);
@@ -184,8 +197,7 @@ pub fn insert(p: Pool, k: usize, s: usize, cost: i64, plan: &[u8], split: usize,
 // The first candidate is taken away.
 pub fn pop(p: Pool) -> Pool
     requires { ⌜ Formed p × (1 ≤ p .count) ⌝ }
-    ensures formed { λ r. ⌜ Formed r × (r .count + 1 ≡ p .count) ⌝ }
-    ensures rest { λ r. ⌜ ((s : ℕ) → entries s p ≡ firstEntry s p ∷ entries s r) ⌝ }
+    ensures { λ r. ⌜ Popped p r ⌝ }
 {
     let n = p.count;
     let mut q = p;

@@ -1,9 +1,11 @@
--- One answer for each place of the state: before the state r, at it and after it.
+-- One answer where the state is before r, one at r and one after r.
 -- Assumes nothing.
 use mathlib.Core.Path.{sym, _∙_}
+use mathlib.Core.List.{head-eq-of-cons-eq}
 use native.Mathlib.Omega.{arith}
+use lib.Seq.{drop-cons}
 use Rattle.model.specs.Path.{byteAt}
-use Rattle.build.proofs.Split.{read-byte, split-before, split-here, split-after}
+use Rattle.build.proofs.Split.{split-before, split-here, split-after}
 use borrow.Author.Needs.{needs}
 use Rattle.build.proofs.choice.Statement.{statement}
 use Rattle.build.proofs.choice.Tie as tie
@@ -17,8 +19,11 @@ cast-result c = omega (arith, c .shared-slice-known .given (c .before .before .a
 returns : tie.Need-returns
 returns c =
     let s = c .before .before in
-    read-byte (s .args .plan .now) (s .args .s) (s .pre .1 (c .before .if1 .taken))
-    ∙ sym (split-before (byteAt (s .args .plan .now)) (s .args .r) (s .args .c) _ (s .args .s) (c .before .if1 .taken))
+    let bs = s .args .plan .now in
+    let l = s .pre .1 (c .before .if1 .taken) in
+    -- the byte is there, so it does not matter what stands for a missing one
+    head-eq-of-cons-eq (sym (drop-cons bs (s .args .s) 0 l) ∙ drop-cons bs (s .args .s) 255 l)
+    ∙ sym (split-before (byteAt bs) (s .args .r) (s .args .c) _ (s .args .s) (c .before .if1 .taken))
 
 returns-2 : tie.Need-returns-2
 returns-2 c =

@@ -1,11 +1,11 @@
+-- The four bytes are the front of the slice from index `at` on.
+-- Assumes nothing.
+use mathlib.Core.Path.{sym}
 use native.Mathlib.Omega.{arith}
 use borrow.Author.Needs.{needs}
 use Rattle.bytes_io.proofs.Numbers.{four-bytes}
 use Rattle.bytes_io.proofs.read4.Statement.{statement}
 use Rattle.bytes_io.proofs.read4.Tie as tie
-use Rattle.bytes_io.proofs.read4.Reads as reads
-use Rattle.bytes_io.proofs.read4.Lts as lts
-use Rattle.bytes_io.proofs.wide.Reads as wide-reads
 
 shared-slice-read-wide : tie.Need-shared-slice-read-wide
 shared-slice-read-wide c = search needs
@@ -60,8 +60,12 @@ add-result-3 c = search needs
 
 returns : tie.Need-returns
 returns c =
-    let s = c .before .before .before .before .before .before .before .before .before in
-    let e = four-bytes (s .args .r .now) (s .args .at) (omega arith) in (omega (arith, e), omega arith)
+    let w3 = c .before .before in
+    let w2 = w3 .before .before in
+    let w1 = w2 .before .before in
+    let s = w1 .before .before .before .args in
+    let e = four-bytes (s .r .now) (s .at) (omega arith) in
+    (rw (w1 .wide .ensures .0, w2 .wide2 .ensures .0, w3 .wide3 .ensures .0, c .wide4 .ensures .0) (sym e), omega arith)
 
 pub read4-spec : {M : Type 1} → statement M
 read4-spec =

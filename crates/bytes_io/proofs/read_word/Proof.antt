@@ -1,13 +1,11 @@
+-- The four bytes as a number, and that number as a signed one.
+-- Assumes nothing.
 use mathlib.Core.Path.{ap, _∙_}
-use Rattle.book.proofs.Words.{read32}
 use borrow.Author.Needs.{needs}
 use Rattle.model.specs.Bytes.{signed}
+use Rattle.book.proofs.Words.{read32}
 use Rattle.bytes_io.proofs.read_word.Statement.{statement}
 use Rattle.bytes_io.proofs.read_word.Tie as tie
-use Rattle.bytes_io.proofs.read_word.Reads as reads
-use Rattle.bytes_io.proofs.read_word.Lts as lts
-use Rattle.bytes_io.proofs.read4.Reads as read4-reads
-use Rattle.bytes_io.proofs.to_signed.Reads as to-signed-reads
 
 read4-requires : tie.Need-read4-requires
 read4-requires c κs = search needs

@@ -1,22 +1,19 @@
+-- The words still to be read, written over what stands there now, give the result.
+-- Assumes nothing.
 use mathlib.Core.Path.{_≡_, refl, sym, ap, _∙_}
-use mathlib.Core.Bool.{Bool, true, false, _&&_}
-use mathlib.Core.List.{List, [], _∷_, _++_}
-use Prim.Native.Nat.{ℕ, _+_, _*_, _-_, _/_, _%_, _≤_, _<_}
+use mathlib.Core.List.{_∷_}
+use Prim.Native.Nat.{_+_, _*_, _-_, _≤_}
 use native.Mathlib.Nat.{add-zero}
-use Rattle.book.proofs.Words.{read32}
 use native.Mathlib.Omega.{arith}
-use lib.ListN.{length, take, drop, getD, set, length-set}
-use Rattle.model.specs.Lists.{same, forEach}
-use Rattle.model.specs.Bytes.{bytes, signedBytes, fromBytes, signed, wordsOf}
-use Rattle.bytes_io.specs.Slices.{written}
-use Rattle.bytes_io.proofs.Numbers.{bytes-step, words-step, length-words, length-signed, signed-complement}
-use Rattle.bytes_io.proofs.Parts.{written-front, set-step, written-end, part-step, write-step, same-step}
 use borrow.Author.Needs.{needs}
+use lib.ListN.{length, drop, length-set}
+use Rattle.model.specs.Bytes.{wordsOf}
+use Rattle.book.proofs.Words.{read32}
+use Rattle.bytes_io.specs.Slices.{written}
+use Rattle.bytes_io.proofs.Parts.{written-front, set-step, written-end}
+use Rattle.bytes_io.proofs.Numbers.{words-step, length-words}
 use Rattle.bytes_io.proofs.read_words.Statement.{statement}
 use Rattle.bytes_io.proofs.read_words.Tie as tie
-use Rattle.bytes_io.proofs.read_words.Reads as reads
-use Rattle.bytes_io.proofs.read_words.Lts as lts
-use Rattle.bytes_io.proofs.read_word.Reads as read-word-reads
 
 abbrev Inv-loop : tie.InvT-loop
 Inv-loop r at n out₀ i₀ out i =
@@ -57,16 +54,16 @@ loop-again c =
     let s = c .before .before .before .before .args in
     let r = s .r .now in
     let p = s .at + 4 * l .i in
+    let q = s .at + 4 * (l .i + 1) in
+    let ys = wordsOf (s .n - (l .i + 1)) (drop q r) in
     let y = c .read-word in
     rw (read32 (y .result) (y .ok)) (
       omega arith,
       length-set (l .out) (l .i) (y .result) ∙ l .inv .1,
       l .inv .2
-      ∙ ap (written (l .out) (l .i) (s .n - l .i))
-          (words-step r (l .i) (s .n) p (s .at + 4 * (l .i + 1)) (omega arith) (omega arith)
-          ∙ ap (λ z. z ∷ wordsOf (s .n - (l .i + 1)) (drop (s .at + 4 * (l .i + 1)) r)) (sym (y .ensures)))
-      ∙ set-step (l .out) (l .i) (s .n) (l .i) (l .i + 1) (y .result) (wordsOf (s .n - (l .i + 1)) (drop (s .at + 4 * (l .i + 1)) r)) (omega arith)
-          (omega arith) refl,
+          ∙ ap (written (l .out) (l .i) (s .n - l .i))
+          (words-step r (l .i) (s .n) p q (omega arith) (omega arith) ∙ ap (λ z. z ∷ ys) (sym (y .ensures)))
+          ∙ set-step (l .out) (l .i) (s .n) (l .i) (l .i + 1) (y .result) ys (omega arith) (omega arith) refl,
     )
 
 same-length : tie.Need-same-length Inv-loop μ-loop

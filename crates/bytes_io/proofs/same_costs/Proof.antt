@@ -1,42 +1,33 @@
-use mathlib.Core.Path.{_≡_, refl, sym, ap, _∙_}
-use mathlib.Core.Bool.{Bool, true, false, _&&_}
-use Prim.Native.Nat.{ℕ, _+_, _*_, _-_, _/_, _%_, _≤_, _<_}
-use native.Mathlib.Nat.{add-zero}
+-- The costs so far have equal bytes, so that those still to be compared decide.
+-- Assumes nothing.
+use mathlib.Core.Path.{_≡_, sym, _∙_}
+use mathlib.Core.Bool.{_&&_}
+use Prim.Native.Nat.{_+_, _*_, _-_, _≤_}
 use native.Mathlib.Omega.{arith}
+use borrow.Author.Needs.{needs}
+use borrow.Author.Tests.{not-true, not-false}
 use lib.IntN.{pos}
-use lib.ListN.{length, take, drop, getD}
-use lib.Seq.{take-length}
+use lib.ListN.{take, drop, getD}
 use mir.Facts.{toZ-ofZ}
 use mir.Syntax.{w64}
 use mir.Val.{SFits}
-use borrow.Author.Tests.{not-true, not-false}
 use Rattle.model.specs.Lists.{same, forEach}
-use Rattle.model.specs.Bytes.{bytes, signedBytes}
-use Rattle.book.proofs.Words.{read32, wider}
-use Rattle.bytes_io.specs.Slices.{written, complement}
-use Rattle.bytes_io.proofs.Numbers.{length-signed, signed-complement}
-use Rattle.bytes_io.proofs.Parts.{rest, write-step, write-end, same-step, same-end}
-use borrow.Author.Needs.{needs}
+use Rattle.model.specs.Bytes.{signedBytes}
+use Rattle.bytes_io.proofs.Parts.{agrees, agrees-start, agrees-step, agrees-end}
+use Rattle.bytes_io.proofs.Numbers.{length-signed}
 use Rattle.bytes_io.proofs.same_costs.Statement.{statement}
 use Rattle.bytes_io.proofs.same_costs.Tie as tie
-use Rattle.bytes_io.proofs.same_costs.Reads as reads
-use Rattle.bytes_io.proofs.same_costs.Lts as lts
-use Rattle.bytes_io.proofs.same_cost.Reads as same-cost-reads
 
 abbrev Inv-loop : tie.InvT-loop
 Inv-loop r at costs k i₀ i =
-    (i ≤ k)
-    × (same (take (8 * k) (drop at r)) (forEach (signedBytes 8) (take k costs))
-    ≡ same (take (8 * (k - i)) (drop (at + 8 * i) r)) (rest (signedBytes 8) costs k i))
+    (i ≤ k) × (same (take (8 * k) (drop at r)) (forEach (signedBytes 8) (take k costs)) ≡ agrees 8 (signedBytes 8) costs k at r i)
 
 abbrev μ-loop : tie.MeasureT-loop
 μ-loop r at costs k i₀ i = k - i
 
 loop-holds : tie.Need-loop-holds Inv-loop μ-loop
 loop-holds c =
-    let s = c .before .args in
-    let z : s .k - 0 ≡ s .k = omega arith in
-    (omega arith, rw (z, add-zero))
+    let s = c .before .args in (omega arith, agrees-start 8 (signedBytes 8) (s .costs .now) (s .k) (s .at) (s .r .now))
 
 mul-x : tie.Need-mul-x Inv-loop μ-loop
 mul-x c = search needs
@@ -53,21 +44,21 @@ add-same-cost c = search needs
 same-cost-requires : tie.Need-same-cost-requires Inv-loop μ-loop
 same-cost-requires c κs = search needs
 
--- what the costs so far leave to compare
+-- this cost and those after it decide
 step : (c : tie.After-same-cost Inv-loop μ-loop) →
     let l = c .before .before .before .loop in
     let s = c .before .before .before .before .before .args in
     same (take (8 * s .k) (drop (s .at) (s .r .now))) (forEach (signedBytes 8) (take (s .k) (s .costs .now)))
-    ≡ (c .same-cost .result && same (take (8 * (s .k - (l .i + 1))) (drop (s .at + 8 * (l .i + 1)) (s .r .now))) (rest (signedBytes 8) (s .costs .now) (s .k) (l .i + 1)))
+    ≡ (c .same-cost .result && agrees 8 (signedBytes 8) (s .costs .now) (s .k) (s .at) (s .r .now) (l .i + 1))
 step c =
     let l = c .before .before .before .loop in
     let s = c .before .before .before .before .before .args in
-    let xs = s .costs .now in
-    let f : SFits w64 (getD xs (l .i) (pos 0)) = record { sfits = c .before .x .given } in
-    let e : c .same-cost .result ≡ same (take 8 (drop (s .at + 8 * l .i) (s .r .now))) (signedBytes 8 (getD xs (l .i) (pos 0)))
-    = rw (toZ-ofZ f) at (c .same-cost .ensures) in
+    let r = s .r .now in
+    let x = getD (s .costs .now) (l .i) (pos 0) in
+    let f : SFits w64 x = record { sfits = c .before .x .given } in
+    let e : c .same-cost .result ≡ same (take 8 (drop (s .at + 8 * l .i) r)) (signedBytes 8 x) = rw (toZ-ofZ f) at (c .same-cost .ensures) in
     l .inv .1
-    ∙ same-step 8 (signedBytes 8) (length-signed 8) xs (pos 0) (l .i) (s .k) (omega arith) (omega arith) (s .r .now) (s .at) (omega arith)
+    ∙ agrees-step 8 (signedBytes 8) (s .costs .now) (s .k) (s .at) (length-signed 8) (pos 0) (l .i) (omega arith) (omega arith) r (omega arith)
     ∙ rw e
 
 returns : tie.Need-returns Inv-loop μ-loop
@@ -86,7 +77,7 @@ returns-2 : tie.Need-returns-2 Inv-loop μ-loop
 returns-2 c =
     let l = c .before .loop in
     let s = c .before .before .before .args in
-    sym (l .inv .1 ∙ same-end (signedBytes 8) (s .costs .now) (s .k) 8 (l .i) (omega arith) (s .r .now) (s .at + 8 * l .i))
+    sym (l .inv .1 ∙ agrees-end 8 (signedBytes 8) (s .costs .now) (s .k) (s .at) (l .i) (omega arith) (s .r .now))
 
 pub same-costs-spec : {M : Type 1} → statement M
 same-costs-spec =

@@ -3,12 +3,14 @@
 use mathlib.Core.Path.{_≡_}
 use mathlib.Core.Bool.{true}
 use native.Mathlib.Omega.{arith}
+use lib.Dec.{T}
 use lib.IntN.{pos, negsuc, _-ℤ_}
-use lib.Signed.{mag, ltZ}
+use lib.Signed.{mag, ltZ, nonNeg}
 use mir.Syntax.{w64}
 use mir.Val.{SFits}
 use mir.Facts.{toZ-ofZ}
-use Rattle.bytes_io.proofs.Numbers.{above, complement-neg, NotNegative, complement-pos}
+use Rattle.book.proofs.Words.{not-neg, abs-mag}
+use Rattle.bytes_io.proofs.Numbers.{above, complement-neg, complement-pos}
 use Rattle.bytes_io.proofs.to_unsigned.Statement.{statement}
 use Rattle.bytes_io.proofs.to_unsigned.Tie as tie
 
@@ -22,8 +24,8 @@ module _ (c : tie.Then1) where
   fit : SFits w64 (pos (mag (c .before .args .x)))
   fit = record { sfits = c .before .fits .x .sfits }
 
-plain : (c : tie.Else1) → NotNegative (c .before .args .most) (c .before .args .x)
-plain c = complement-pos (c .before .args .most) (c .before .args .x) (rw (toZ-ofZ (c .before .fits .x)) at (c .if1 .left))
+plain : (c : tie.Else1) → T (nonNeg (c .before .args .x))
+plain c = not-neg (c .before .args .x) (rw (toZ-ofZ (c .before .fits .x)) at (c .if1 .left))
 
 sub-result : tie.Need-sub-result
 sub-result c = rw (toZ-ofZ (c .before .fits .x), flip c) (fit c)
@@ -41,11 +43,10 @@ returns c =
 
 cast-result-2 : tie.Need-cast-result-2
 cast-result-2 c =
-    let p = plain c in
-    rw (toZ-ofZ (c .before .fits .x)) (p .sign, omega (arith, p .size, c .before .fits .x .sfits))
+    rw (toZ-ofZ (c .before .fits .x)) (plain c, omega (arith, abs-mag (c .before .args .x), c .before .fits .x .sfits))
 
 returns-2 : tie.Need-returns-2
-returns-2 c = rw (toZ-ofZ (c .before .fits .x)) (plain c .is)
+returns-2 c = rw (toZ-ofZ (c .before .fits .x)) (complement-pos (c .before .args .most) (c .before .args .x) (plain c))
 
 pub to-unsigned-spec : {M : Type 1} → statement M
 to-unsigned-spec =

@@ -1,20 +1,15 @@
+-- The bytes still to be copied, written over what stands there now, give the result.
+-- Assumes nothing.
 use mathlib.Core.Path.{_≡_, refl, sym, ap, _∙_}
-use mathlib.Core.Bool.{Bool, true, false, _&&_}
-use mathlib.Core.List.{List, [], _∷_, _++_}
-use Prim.Native.Nat.{ℕ, _+_, _*_, _-_, _/_, _%_, _≤_, _<_}
+use Prim.Native.Nat.{_+_, _-_, _≤_}
 use native.Mathlib.Nat.{add-zero}
 use native.Mathlib.Omega.{arith}
-use lib.ListN.{length, take, drop, getD, set, length-set}
-use Rattle.model.specs.Lists.{same, forEach}
-use Rattle.model.specs.Bytes.{bytes, signedBytes, fromBytes, signed, wordsOf}
-use Rattle.bytes_io.specs.Slices.{written}
-use Rattle.bytes_io.proofs.Numbers.{bytes-step, words-step, length-words, length-signed, signed-complement}
-use Rattle.bytes_io.proofs.Parts.{set-step, written-end, part-step, write-step, same-step}
 use borrow.Author.Needs.{needs}
+use lib.ListN.{length, take, drop, getD, length-set}
+use Rattle.bytes_io.specs.Slices.{written}
+use Rattle.bytes_io.proofs.Parts.{set-step, written-end, part-step}
 use Rattle.bytes_io.proofs.write_bytes.Statement.{statement}
 use Rattle.bytes_io.proofs.write_bytes.Tie as tie
-use Rattle.bytes_io.proofs.write_bytes.Reads as reads
-use Rattle.bytes_io.proofs.write_bytes.Lts as lts
 
 abbrev Inv-loop : tie.InvT-loop
 Inv-loop out₀ at src n i₀ out i =
@@ -51,8 +46,8 @@ loop-again c =
       omega arith,
       length-set (l .out) (s .at + l .i) (getD src (l .i) 0) ∙ l .inv .1,
       l .inv .2
-      ∙ ap (written (l .out) (s .at + l .i) (s .n - l .i)) (part-step src (l .i) (s .n) (l .i) (l .i + 1) 0 (omega arith) (omega arith) refl)
-      ∙ set-step (l .out) (l .i) (s .n) (s .at + l .i) (s .at + (l .i + 1)) (getD src (l .i) 0) (take (s .n - (l .i + 1)) (drop (l .i + 1) src))
+          ∙ ap (written (l .out) (s .at + l .i) (s .n - l .i)) (part-step src (l .i) (s .n) (l .i) (l .i + 1) 0 (omega arith) (omega arith) refl)
+          ∙ set-step (l .out) (l .i) (s .n) (s .at + l .i) (s .at + (l .i + 1)) (getD src (l .i) 0) (take (s .n - (l .i + 1)) (drop (l .i + 1) src))
           (omega arith) (omega arith) (omega arith),
     )
 

@@ -1,40 +1,33 @@
-use mathlib.Core.Path.{_≡_, refl, sym, ap, _∙_}
-use mathlib.Core.Bool.{Bool, true, false, _&&_}
-use Prim.Native.Nat.{ℕ, _+_, _*_, _-_, _/_, _%_, _≤_, _<_}
-use native.Mathlib.Nat.{add-zero}
+-- The costs still to be written, written over what stands there now, give the result.
+-- Assumes nothing.
+use mathlib.Core.Path.{_≡_, refl, sym, _∙_}
+use Prim.Native.Nat.{_+_, _*_, _-_, _≤_}
 use native.Mathlib.Omega.{arith}
+use borrow.Author.Needs.{needs}
 use lib.IntN.{pos}
-use lib.ListN.{length, take, drop, getD}
-use lib.Seq.{take-length}
+use lib.ListN.{length, take, getD}
 use mir.Facts.{toZ-ofZ}
 use mir.Syntax.{w64}
 use mir.Val.{SFits}
-use Rattle.model.specs.Lists.{same, forEach}
-use Rattle.model.specs.Bytes.{bytes, signedBytes}
-use Rattle.book.proofs.Words.{read32, wider}
-use Rattle.bytes_io.specs.Slices.{written, complement}
-use Rattle.bytes_io.proofs.Numbers.{length-signed, signed-complement}
-use Rattle.bytes_io.proofs.Parts.{rest, write-step, write-end, same-step, same-end}
-use borrow.Author.Needs.{needs}
+use Rattle.model.specs.Lists.{forEach}
+use Rattle.model.specs.Bytes.{signedBytes}
+use Rattle.bytes_io.specs.Slices.{written}
+use Rattle.bytes_io.proofs.Parts.{finished, finished-start, finished-step, finished-end}
+use Rattle.bytes_io.proofs.Numbers.{length-signed}
 use Rattle.bytes_io.proofs.write_costs.Statement.{statement}
 use Rattle.bytes_io.proofs.write_costs.Tie as tie
-use Rattle.bytes_io.proofs.write_costs.Reads as reads
-use Rattle.bytes_io.proofs.write_costs.Lts as lts
-use Rattle.bytes_io.proofs.write_cost.Reads as write-cost-reads
 
 abbrev Inv-loop : tie.InvT-loop
 Inv-loop out₀ at costs k i₀ out i =
     (i ≤ k) × (length out ≡ length out₀)
-    × (written out₀ at (8 * k) (forEach (signedBytes 8) (take k costs)) ≡ written out (at + 8 * i) (8 * (k - i)) (rest (signedBytes 8) costs k i))
+    × (written out₀ at (8 * k) (forEach (signedBytes 8) (take k costs)) ≡ finished 8 (signedBytes 8) costs k at out i)
 
 abbrev μ-loop : tie.MeasureT-loop
 μ-loop out₀ at costs k i₀ out i = k - i
 
 loop-holds : tie.Need-loop-holds Inv-loop μ-loop
 loop-holds c =
-    let s = c .before .args in
-    let z : s .k - 0 ≡ s .k = omega arith in
-    (omega arith, refl, rw (z, add-zero))
+    let s = c .before .args in (omega arith, refl, finished-start 8 (signedBytes 8) (s .costs .now) (s .k) (s .at) (s .out .now))
 
 mul-x : tie.Need-mul-x Inv-loop μ-loop
 mul-x c = search needs
@@ -60,17 +53,16 @@ loop-less c = search needs
 loop-again : tie.Need-loop-again Inv-loop μ-loop
 loop-again c =
     let y = c .before .before .write-cost in
-    let g = c .before .before .before .before .x .given in
     let l = c .before .before .before .before .before .before .loop in
     let s = c .before .before .before .before .before .before .before .before .args in
-    let xs = s .costs .now in
-    let f : SFits w64 (getD xs (l .i) (pos 0)) = record { sfits = g } in
-    let e : y .last .0 ≡ written (l .out) (s .at + 8 * l .i) 8 (signedBytes 8 (getD xs (l .i) (pos 0))) = rw (toZ-ofZ f) at (y .ensures) in (
+    let x = getD (s .costs .now) (l .i) (pos 0) in
+    let f : SFits w64 x = record { sfits = c .before .before .before .before .x .given } in
+    let e : y .last .0 ≡ written (l .out) (s .at + 8 * l .i) 8 (signedBytes 8 x) = rw (toZ-ofZ f) at (y .ensures) in (
       omega arith,
       y .kept .0 ∙ l .inv .1,
       l .inv .2
-      ∙ write-step 8 (signedBytes 8) (length-signed 8) xs (pos 0) (l .i) (s .k) (omega arith) (omega arith) (l .out) (s .at) (omega arith)
-      ∙ ap (λ o. written o (s .at + 8 * (l .i + 1)) (8 * (s .k - (l .i + 1))) (rest (signedBytes 8) xs (s .k) (l .i + 1))) (sym e),
+          ∙ finished-step 8 (signedBytes 8) (s .costs .now) (s .k) (s .at) (length-signed 8) (pos 0) (l .i) (omega arith) (omega arith) (l .out)
+          (y .last .0) (omega arith) e,
     )
 
 same-length : tie.Need-same-length Inv-loop μ-loop
@@ -80,7 +72,7 @@ returns : tie.Need-returns Inv-loop μ-loop
 returns c =
     let l = c .before .loop in
     let s = c .before .before .before .args in
-    sym ((l .inv .2 ∙ write-end (signedBytes 8) (s .costs .now) (s .k) 8 (l .i) (omega arith) (l .out) (s .at + 8 * l .i)))
+    sym (l .inv .2 ∙ finished-end 8 (signedBytes 8) (s .costs .now) (s .k) (s .at) (l .i) (omega arith) (l .out))
 
 pub write-costs-spec : {M : Type 1} → statement M
 write-costs-spec =

@@ -1,20 +1,17 @@
+-- The bytes still to be written, written over what stands there now, give the result.
+-- Assumes nothing.
 use mathlib.Core.Path.{_≡_, refl, sym, ap, _∙_}
-use mathlib.Core.Bool.{Bool, true, false, _&&_}
-use mathlib.Core.List.{List, [], _∷_, _++_}
-use Prim.Native.Nat.{ℕ, _+_, _*_, _-_, _/_, _%_, _≤_, _<_}
+use Prim.Native.Nat.{_+_, _-_, _/_, _%_, _≤_}
 use native.Mathlib.Nat.{add-zero}
 use native.Mathlib.Omega.{arith}
-use lib.ListN.{length, take, drop, getD, set, length-set}
-use Rattle.model.specs.Lists.{same, forEach}
-use Rattle.model.specs.Bytes.{bytes, signedBytes, fromBytes, signed, wordsOf}
-use Rattle.bytes_io.specs.Slices.{written}
-use Rattle.bytes_io.proofs.Numbers.{bytes-step, words-step, length-words, length-signed, signed-complement}
-use Rattle.bytes_io.proofs.Parts.{set-step, written-end, part-step, write-step, same-step}
 use borrow.Author.Needs.{needs}
+use lib.ListN.{length, length-set}
+use Rattle.model.specs.Bytes.{bytes}
+use Rattle.bytes_io.specs.Slices.{written}
+use Rattle.bytes_io.proofs.Parts.{set-step, written-end}
+use Rattle.bytes_io.proofs.Numbers.{bytes-step}
 use Rattle.bytes_io.proofs.write_low.Statement.{statement}
 use Rattle.bytes_io.proofs.write_low.Tie as tie
-use Rattle.bytes_io.proofs.write_low.Reads as reads
-use Rattle.bytes_io.proofs.write_low.Lts as lts
 
 abbrev Inv-loop : tie.InvT-loop
 Inv-loop out₀ at n x y₀ i₀ out y i =
@@ -49,7 +46,7 @@ loop-again c =
       omega arith,
       length-set (l .out) (s .at + l .i) (l .y % 256) ∙ l .inv .1,
       l .inv .2 ∙ ap (written (l .out) (s .at + l .i) (s .n - l .i)) (bytes-step (l .i) (s .n) (l .y) (omega arith))
-      ∙ set-step (l .out) (l .i) (s .n) (s .at + l .i) (s .at + (l .i + 1)) (l .y % 256) (bytes (s .n - (l .i + 1)) (l .y / 256)) (omega arith)
+          ∙ set-step (l .out) (l .i) (s .n) (s .at + l .i) (s .at + (l .i + 1)) (l .y % 256) (bytes (s .n - (l .i + 1)) (l .y / 256)) (omega arith)
           (omega arith) (omega arith),
     )
 

@@ -1,25 +1,16 @@
-use mathlib.Core.Path.{_≡_, refl, sym, ap, _∙_}
-use mathlib.Core.Bool.{Bool, true, false, _&&_}
-use Prim.Native.Nat.{ℕ, _+_, _*_, _-_, _/_, _%_, _≤_, _<_}
-use native.Mathlib.Nat.{add-zero}
+-- 64 bits hold the word, and its complement has its four bytes.
+-- Assumes nothing.
+use mathlib.Core.Path.{_≡_, ap, _∙_}
+use Prim.Native.Nat.{_-_}
 use native.Mathlib.Omega.{arith}
-use lib.IntN.{pos}
-use lib.ListN.{length, take, drop, getD}
-use lib.Seq.{take-length}
-use mir.Facts.{toZ-ofZ}
-use Rattle.model.specs.Lists.{same, forEach}
-use Rattle.model.specs.Bytes.{bytes, signedBytes}
-use Rattle.book.proofs.Words.{read32, wider}
-use Rattle.bytes_io.specs.Slices.{written, complement}
-use Rattle.bytes_io.proofs.Numbers.{length-signed, signed-complement}
-use Rattle.bytes_io.proofs.Parts.{rest, write-step, write-end, same-step, same-end}
 use borrow.Author.Needs.{needs}
+use mir.Facts.{toZ-ofZ}
+use Rattle.model.specs.Bytes.{bytes}
+use Rattle.book.proofs.Words.{wider}
+use Rattle.bytes_io.specs.Slices.{written, complement}
+use Rattle.bytes_io.proofs.Numbers.{complement-bytes}
 use Rattle.bytes_io.proofs.write_word.Statement.{statement}
 use Rattle.bytes_io.proofs.write_word.Tie as tie
-use Rattle.bytes_io.proofs.write_word.Reads as reads
-use Rattle.bytes_io.proofs.write_word.Lts as lts
-use Rattle.bytes_io.proofs.to_unsigned.Reads as to-unsigned-reads
-use Rattle.bytes_io.proofs.write_low.Reads as write-low-reads
 
 cast-to-unsigned : tie.Need-cast-to-unsigned
 cast-to-unsigned c = let s = c .before .before in rw (toZ-ofZ (s .fits .x)) (wider (s .fits .x .sfits))
@@ -41,7 +32,7 @@ returns c =
     let s = c .before .before .before .before .before .before in
     let e : u .result ≡ complement 4294967295 (s .args .x)
     = simp (toZ-ofZ (s .fits .x), toZ-ofZ (wider {z = s .args .x} (s .fits .x .sfits))) at (u .ensures) in
-    c .before .before .write-low .ensures ∙ rw (e, signed-complement 4 (s .args .x))
+    c .before .before .write-low .ensures ∙ ap (written (s .args .out .now) (s .args .at) 4) (ap (bytes 4) e ∙ complement-bytes 4 (s .args .x))
 
 pub write-word-spec : {M : Type 1} → statement M
 write-word-spec =

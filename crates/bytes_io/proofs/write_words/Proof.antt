@@ -1,31 +1,27 @@
-use mathlib.Core.Path.{_≡_, refl, sym, ap, _∙_}
-use mathlib.Core.Bool.{Bool, true, false, _&&_}
-use Prim.Native.Nat.{ℕ, _+_, _*_, _-_, _/_, _%_, _≤_, _<_}
-use native.Mathlib.Nat.{add-zero}
+-- The words still to be written, written over what stands there now, give the result.
+-- Assumes nothing.
+use mathlib.Core.Path.{_≡_, refl, sym, _∙_}
+use Prim.Native.Nat.{_+_, _*_, _-_, _≤_}
 use native.Mathlib.Omega.{arith}
+use borrow.Author.Needs.{needs}
 use lib.IntN.{pos}
-use lib.ListN.{length, take, drop, getD}
+use lib.ListN.{length, getD}
 use lib.Seq.{take-length}
 use mir.Facts.{toZ-ofZ}
 use mir.Syntax.{w32}
 use mir.Val.{SFits}
-use Rattle.model.specs.Lists.{same, forEach}
-use Rattle.model.specs.Bytes.{bytes, signedBytes}
-use Rattle.book.proofs.Words.{read32, wider}
-use Rattle.bytes_io.specs.Slices.{written, complement}
-use Rattle.bytes_io.proofs.Numbers.{length-signed, signed-complement}
-use Rattle.bytes_io.proofs.Parts.{rest, write-step, write-end, same-step, same-end}
-use borrow.Author.Needs.{needs}
+use Rattle.model.specs.Lists.{forEach}
+use Rattle.model.specs.Bytes.{signedBytes}
+use Rattle.bytes_io.specs.Slices.{written}
+use Rattle.bytes_io.proofs.Parts.{finished, finished-start, finished-step, finished-end}
+use Rattle.bytes_io.proofs.Numbers.{length-signed}
 use Rattle.bytes_io.proofs.write_words.Statement.{statement}
 use Rattle.bytes_io.proofs.write_words.Tie as tie
-use Rattle.bytes_io.proofs.write_words.Reads as reads
-use Rattle.bytes_io.proofs.write_words.Lts as lts
-use Rattle.bytes_io.proofs.write_word.Reads as write-word-reads
 
 abbrev Inv-loop : tie.InvT-loop
 Inv-loop out₀ at ws n i₀ out i =
     (i ≤ n) × (length out ≡ length out₀)
-    × (written out₀ at (4 * n) (forEach (signedBytes 4) ws) ≡ written out (at + 4 * i) (4 * (n - i)) (rest (signedBytes 4) ws n i))
+    × (written out₀ at (4 * n) (forEach (signedBytes 4) ws) ≡ finished 4 (signedBytes 4) ws n at out i)
 
 abbrev μ-loop : tie.MeasureT-loop
 μ-loop out₀ at ws n i₀ out i = n - i
@@ -33,8 +29,7 @@ abbrev μ-loop : tie.MeasureT-loop
 loop-holds : tie.Need-loop-holds Inv-loop μ-loop
 loop-holds c =
     let s = c .before .args in
-    let z : length (s .ws .now) - 0 ≡ length (s .ws .now) = omega arith in
-    (omega arith, refl, rw (z, add-zero, take-length (s .ws .now)))
+    (omega arith, refl, rw take-length at (finished-start 4 (signedBytes 4) (s .ws .now) (length (s .ws .now)) (s .at) (s .out .now)))
 
 mul-x : tie.Need-mul-x Inv-loop μ-loop
 mul-x c = search needs
@@ -60,17 +55,17 @@ loop-less c = search needs
 loop-again : tie.Need-loop-again Inv-loop μ-loop
 loop-again c =
     let y = c .before .before .write-word in
-    let g = c .before .before .before .before .x .given in
     let l = c .before .before .before .before .before .before .loop in
     let s = c .before .before .before .before .before .before .before .before .args in
-    let xs = s .ws .now in
-    let f : SFits w32 (getD xs (l .i) (pos 0)) = record { sfits = g } in
-    let e : y .last .0 ≡ written (l .out) (s .at + 4 * l .i) 4 (signedBytes 4 (getD xs (l .i) (pos 0))) = rw (toZ-ofZ f) at (y .ensures) in (
+    let ws = s .ws .now in
+    let x = getD ws (l .i) (pos 0) in
+    let f : SFits w32 x = record { sfits = c .before .before .before .before .x .given } in
+    let e : y .last .0 ≡ written (l .out) (s .at + 4 * l .i) 4 (signedBytes 4 x) = rw (toZ-ofZ f) at (y .ensures) in (
       omega arith,
       y .kept .0 ∙ l .inv .1,
       l .inv .2
-      ∙ write-step 4 (signedBytes 4) (length-signed 4) xs (pos 0) (l .i) (length (s .ws .now)) (omega arith) (omega arith) (l .out) (s .at) (omega arith)
-      ∙ ap (λ o. written o (s .at + 4 * (l .i + 1)) (4 * (length (s .ws .now) - (l .i + 1))) (rest (signedBytes 4) xs (length (s .ws .now)) (l .i + 1))) (sym e),
+          ∙ finished-step 4 (signedBytes 4) ws (length ws) (s .at) (length-signed 4) (pos 0) (l .i) (omega arith) (omega arith) (l .out)
+          (y .last .0) (omega arith) e,
     )
 
 same-length : tie.Need-same-length Inv-loop μ-loop
@@ -80,7 +75,7 @@ returns : tie.Need-returns Inv-loop μ-loop
 returns c =
     let l = c .before .loop in
     let s = c .before .before .before .args in
-    sym (l .inv .2 ∙ write-end (signedBytes 4) (s .ws .now) (length (s .ws .now)) 4 (l .i) (omega arith) (l .out) (s .at + 4 * l .i))
+    sym (l .inv .2 ∙ finished-end 4 (signedBytes 4) (s .ws .now) (length (s .ws .now)) (s .at) (l .i) (omega arith) (l .out))
 
 pub write-words-spec : {M : Type 1} → statement M
 write-words-spec =

@@ -1,23 +1,17 @@
 -- The tests are the definition's.
 -- Assumes nothing.
-use mathlib.Core.Path.{_≡_, refl, sym, ap, _∙_, subst}
+use mathlib.Core.Path.{_≡_}
 use mathlib.Core.Bool.{Bool, true, false}
-use mathlib.Core.List.{List, _++_, append-nil}
-use Prim.Native.Nat.{ℕ, _≤_, _<_, _+_, _*_, _-_}
-use native.Mathlib.Omega.{arith}
-use native.Mathlib.Numerals.{add-one}
+use Prim.Native.Nat.{_-_}
 use lib.IntN.{ℤ, pos}
 use lib.Signed.{ltZ}
 use mir.Syntax.{w64}
 use mir.Val.{toZ, ofZ}
-use lib.ListN.{length, length-drop, length-set, getD, set, take, drop}
+use lib.ListN.{getD}
 use Rattle.costs.proofs.Sums.{read64}
 use borrow.Author.Needs.{needs}
 use Rattle.pool.proofs.earlier.Statement.{statement}
 use Rattle.pool.proofs.earlier.Tie as tie
-use Rattle.pool.proofs.earlier.Reads as reads
-use Rattle.pool.proofs.earlier.Lts as lts
-use Rattle.pool.proofs.lower_bytes.Reads as lower-bytes-reads
 
 mul-other : tie.Need-mul-other
 mul-other c = search needs
@@ -28,16 +22,16 @@ element-copy-out-other c = search needs
 -- the two costs as they were read
 module _ (c : tie.After-other) where
   abbrev x : ℤ
-  x = c .before .args .cost
+  x = c .before .before .args .cost
 
   abbrev y : ℤ
-  y = getD (c .before .args .costs .now) (c .before .args .j) (pos 0)
+  y = getD (c .before .before .args .costs .now) (c .before .before .args .j) (pos 0)
 
   below : (t : Bool) → ltZ (toZ w64 (ofZ w64 x)) (toZ w64 (ofZ w64 y)) ≡ t → ltZ x y ≡ t
-  below t e = rw (read64 x (c .before .fits .cost .sfits), read64 y (c .other .given)) at e
+  below t e = rw (read64 x (c .before .before .fits .cost .sfits), read64 y (c .other .given)) at e
 
   above : (t : Bool) → ltZ (toZ w64 (ofZ w64 y)) (toZ w64 (ofZ w64 x)) ≡ t → ltZ y x ≡ t
-  above t e = rw (read64 x (c .before .fits .cost .sfits), read64 y (c .other .given)) at e
+  above t e = rw (read64 x (c .before .before .fits .cost .sfits), read64 y (c .other .given)) at e
 
 returns : tie.Need-returns
 returns c = rw (below (c .before) true (c .if1 .taken))

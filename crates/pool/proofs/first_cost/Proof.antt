@@ -9,8 +9,6 @@ use Rattle.costs.proofs.Sums.{read64}
 use borrow.Author.Needs.{needs}
 use Rattle.pool.proofs.first_cost.Statement.{statement}
 use Rattle.pool.proofs.first_cost.Tie as tie
-use Rattle.pool.proofs.first_cost.Reads as reads
-use Rattle.pool.proofs.first_cost.Lts as lts
 
 low : (s : tie.Start) → getD (s .args .t1 .order) 0 0 < 64
 low s = slot-low (s .pre .0 .slots) 0 (omega arith)

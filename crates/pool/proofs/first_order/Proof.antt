@@ -1,13 +1,10 @@
 -- The first i places hold the first i slots.
 -- Assumes nothing.
-use mathlib.Core.Path.{_≡_, refl, sym, ap, _∙_, subst}
-use mathlib.Core.Bool.{Bool, true, false}
-use mathlib.Core.List.{List, _++_, append-nil}
-use Prim.Native.Nat.{ℕ, _≤_, _<_, _+_, _*_, _-_}
+use mathlib.Core.Path.{_≡_, refl, sym, _∙_, subst}
+use mathlib.Core.List.{_++_}
+use Prim.Native.Nat.{ℕ, _≤_, _+_, _-_}
 use native.Mathlib.Omega.{arith}
-use native.Mathlib.Numerals.{add-one}
-use lib.ListN.{length, length-drop, length-set, getD, set, take, drop}
-use lib.Seq.{paste, paste-zero, paste-suc, take-all, drop-length, length-take-le}
+use lib.ListN.{length, set, take, drop}
 use Rattle.model.specs.Lists.{upFrom}
 use native.Mathlib.Nat.{zero-add}
 use Rattle.pool.specs.Entries.{Slots}
@@ -16,9 +13,6 @@ use Rattle.pool.proofs.Lists.{front-more, copied-all, upFrom-long, upFr
 use borrow.Author.Needs.{needs}
 use Rattle.pool.proofs.first_order.Statement.{statement}
 use Rattle.pool.proofs.first_order.Tie as tie
-use Rattle.pool.proofs.first_order.Reads as reads
-use Rattle.pool.proofs.first_order.Lts as lts
-use Rattle.pool.proofs.zeros.Reads as zeros-reads
 
 abbrev Inv-loop : tie.InvT-loop
 Inv-loop order₀ i₀ order i = (i ≤ 64) × (length order₀ ≡ 64) × (order ≡ take i (upFrom 0 64) ++ drop i order₀)
@@ -47,19 +41,19 @@ loop-less c = search needs
 loop-again : tie.Need-loop-again Inv-loop μ-loop
 loop-again c =
     let l = c .before in
-    ( omega arith
-    , l .loop .inv .1
-    , subst (λ (x : ℕ). set (l .loop .order) (l .loop .i) x ≡ take (l .loop .i + 1) (upFrom 0 64) ++ drop (l .loop .i + 1) (l .before .zeros .result))
-      (upFrom-at 0 64 (l .loop .i) (omega arith) ∙ zero-add (l .loop .i))
-      (rw (l .loop .inv .2)
-      (front-more (l .before .zeros .result) (upFrom 0 64) (l .loop .i) 0 (omega arith) (omega arith))))
+    let i = l .loop .i in
+    let d = l .before .zeros .result in (
+      omega arith,
+      l .loop .inv .1,
+      subst (λ (x : ℕ). set (l .loop .order) (l .loop .i) x ≡ take (l .loop .i + 1) (upFrom 0 64) ++ drop (l .loop .i + 1) d)
+          (upFrom-at 0 64 i (omega arith) ∙ zero-add i) (rw (l .loop .inv .2) (front-more d (upFrom 0 64) i 0 (omega arith) (omega arith))),
+    )
 
 returns : tie.Need-returns Inv-loop μ-loop
 returns c =
     let l = c .before in
-    let e : l .loop .i ≡ 64 = omega arith in
-    subst Slots (sym
-    (l .loop .inv .2 ∙ copied-all (l .before .zeros .result) (upFrom 0 64) (l .loop .i) (omega arith) (omega (arith, upFrom-long 0 64)))) first-slots
+    let d = l .before .zeros .result in
+    subst Slots (sym (l .loop .inv .2 ∙ copied-all d (upFrom 0 64) (l .loop .i) (omega arith) (omega (arith, upFrom-long 0 64)))) first-slots
 
 pub first-order-spec : {M : Type 1} → statement M
 first-order-spec =

@@ -1,13 +1,10 @@
 -- The first i bytes are copied.
 -- Assumes nothing.
-use mathlib.Core.Path.{_≡_, refl, sym, ap, _∙_, subst}
-use mathlib.Core.Bool.{Bool, true, false}
-use mathlib.Core.List.{List, _++_, append-nil}
-use Prim.Native.Nat.{ℕ, _≤_, _<_, _+_, _*_, _-_}
+use mathlib.Core.Path.{_≡_, refl, _∙_}
+use mathlib.Core.List.{_++_}
+use Prim.Native.Nat.{_≤_, _<_, _+_, _-_}
 use native.Mathlib.Omega.{arith}
-use native.Mathlib.Numerals.{add-one}
-use lib.ListN.{length, length-drop, length-set, getD, set, take, drop}
-use lib.Seq.{paste, paste-zero, paste-suc, take-all, drop-length, length-take-le}
+use lib.ListN.{length, length-set, getD, take, drop}
 use Rattle.pool.specs.Entries.{row}
 use Rattle.pool.proofs.Lists.{front-more, copied-all}
 use Rattle.pool.proofs.Rows.{row-long, row-at}
@@ -15,11 +12,13 @@ use Rattle.pool.proofs.Moves.{slot-low}
 use borrow.Author.Needs.{needs}
 use Rattle.pool.proofs.first_plan.Statement.{statement}
 use Rattle.pool.proofs.first_plan.Tie as tie
-use Rattle.pool.proofs.first_plan.Reads as reads
-use Rattle.pool.proofs.first_plan.Lts as lts
 
 abbrev Inv-loop : tie.InvT-loop
-Inv-loop s out₀ p base i₀ out i = (i ≤ s) × (length out ≡ length out₀) × (getD (p .order) 0 0 < 64) × (out ≡ take i (row s (p .plans) (getD (p .order) 0 0)) ++ drop i out₀)
+Inv-loop s out₀ p base i₀ out i =
+    (i ≤ s)
+    × (length out ≡ length out₀)
+    × (getD (p .order) 0 0 < 64)
+    × (out ≡ take i (row s (p .plans) (getD (p .order) 0 0)) ++ drop i out₀)
 
 abbrev μ-loop : tie.MeasureT-loop
 μ-loop s out₀ p base i₀ out i = s - i
@@ -56,12 +55,13 @@ loop-again c =
     let l = c .before .before in
     let s = l .before .before in
     let p = s .args .t1 in
-    let long = row-long (s .args .s) (p .plans) (getD (p .order) 0 0) (s .pre .0 .plans-long) (l .loop .inv .2) (s .pre .3) in
-    ( omega arith
-    , simp length-set (l .loop .inv .1)
-    , l .loop .inv .2
-    , rw (← row-at (s .args .s) (p .plans) (getD (p .order) 0 0) (l .loop .i) (omega arith), l .loop .inv .3)
-      (front-more (s .args .out .now) (row (s .args .s) (p .plans) (getD (p .order) 0 0)) (l .loop .i) 0 (omega arith) (omega arith)))
+    let long = row-long (s .args .s) (p .plans) (getD (p .order) 0 0) (s .pre .0 .plans-long) (l .loop .inv .2) (s .pre .3) in (
+      omega arith,
+      simp length-set (l .loop .inv .1),
+      l .loop .inv .2,
+      rw (← row-at (s .args .s) (p .plans) (getD (p .order) 0 0) (l .loop .i) (omega arith), l .loop .inv .3)
+          (front-more (s .args .out .now) (row (s .args .s) (p .plans) (getD (p .order) 0 0)) (l .loop .i) 0 (omega arith) (omega arith)),
+    )
 
 same-length : tie.Need-same-length Inv-loop μ-loop
 same-length c = c .before .loop .inv .1

@@ -1,54 +1,120 @@
+-- Where the candidate comes after k others, the pool stays; else its slot is filled and moved up to its place.
+-- Assumes nothing.
+use mathlib.Core.Path.{_≡_, sym, subst}
+use Prim.Native.Nat.{ℕ, _+_, _≤_, _<_}
+use native.Mathlib.Omega.{arith}
+use lib.ListN.{getD, set, take}
+use Rattle.costs.proofs.Sums.{read64}
+use Rattle.pool.specs.declared.Pool.{Pool}
+use Rattle.stored.specs.Entry.{Entry}
+use Rattle.pool.specs.Entries.{earlierThan, firstYes, Inserted}
+use Rattle.pool.proofs.Moves.{slot-low}
+use Rattle.pool.proofs.Insertion.{unchanged, filled, place-before, filled-inserted}
 use borrow.Author.Needs.{needs}
 use Rattle.pool.proofs.insert.Statement.{statement}
 use Rattle.pool.proofs.insert.Tie as tie
-use Rattle.pool.proofs.insert.Reads as reads
-use Rattle.pool.proofs.insert.Lts as lts
-use Rattle.pool.proofs.move_up.Reads as move-up-reads
-use Rattle.pool.proofs.place.Reads as place-reads
-use Rattle.pool.proofs.spare_place.Reads as spare-place-reads
-use Rattle.pool.proofs.write_row.Reads as write-row-reads
 
 place-requires : tie.Need-place-requires
 place-requires c κs = search needs
 
+-- the new entry
+abbrev entry : tie.Start → Entry
+entry s = record { cost = s .args .cost; plan = s .args .plan .now; split = s .args .split; mask = s .args .mask }
+
+-- the place, by the cost as it was passed
+place-is : (a : tie.After-place) → let s = a .before .before .before .before .before .before in
+    a .place .result ≡ firstYes (earlierThan (s .args .cost) (s .args .plan .now) (s .args .s) (s .args .t1 .costs) (s .args .t1 .plans))
+    (take (s .args .t1 .count) (s .args .t1 .order))
+place-is a =
+    let s = a .before .before .before .before .before .before in
+    rw (read64 (s .args .cost) (s .fits .cost .sfits)) at (a .place .ensures)
+
 returns : tie.Need-returns
-returns c = search needs
+returns c =
+    let s = c .before .before .before .before .before .before .before in
+    unchanged (s .args .t1) (s .args .s) (s .args .k) (entry s) (s .pre) (c .before .place .result) (place-is (c .before)) (c .if1 .taken)
 
 spare-place-requires : tie.Need-spare-place-requires
 spare-place-requires c κs = search needs
 
 mul-slot : tie.Need-mul-slot
-mul-slot c = search needs
+mul-slot c = omega arith
 
 element-copy-out-slot : tie.Need-element-copy-out-slot
-element-copy-out-slot c = search needs
+element-copy-out-slot c = omega arith
+
+-- the slot is chosen
+module _ (c : tie.After-spare-place) where
+  abbrev a : tie.After-place
+  a = c .before .before
+
+  abbrev s : tie.Start
+  s = a .before .before .before .before .before .before
+
+  abbrev p : Pool
+  p = s .args .t1
+
+  abbrev n : ℕ
+  n = c .spare-place .result
+
+  abbrev j : ℕ
+  j = getD (p .order) n 0
+
+  low : j < 64
+  low = slot-low (s .pre .0 .slots) n (omega arith)
+
+  before-n : a .place .result ≤ n
+  before-n =
+      place-before p (s .args .s) (s .args .k) (entry s) (s .pre) (a .place .result) (place-is a) n (c .spare-place .ensures)
+      (c .before .if1 .left)
+
+  inserted : Inserted (s .args .s) (s .args .k) (entry s) p (filled p (s .args .s) (entry s) (a .place .result) n)
+  inserted =
+      filled-inserted p (s .args .s) (s .args .k) (entry s) (s .pre) (a .place .result) (place-is a) n (c .spare-place .ensures)
+      (c .before .if1 .left)
 
 mul-cost : tie.Need-mul-cost
-mul-cost c = search needs
+mul-cost c = omega (arith, low (c .before))
 
 element-set-from-cost : tie.Need-element-set-from-cost
-element-set-from-cost c = search needs
+element-set-from-cost c = low (c .before)
 
 write-row-requires : tie.Need-write-row-requires
-write-row-requires c κs = search needs
+write-row-requires c κs =
+    let h = s (c .before .before) .pre in
+    (h .0 .plans-long, low (c .before .before), h .2, h .6)
 
 mul-q : tie.Need-mul-q
-mul-q c = search needs
+mul-q c = omega (arith, low (c .before .before .before))
 
 element-write-q : tie.Need-element-write-q
-element-write-q c = search needs
+element-write-q c = low (c .before .before .before)
 
 element-write-q-2 : tie.Need-element-write-q-2
-element-write-q-2 c = search needs
+element-write-q-2 c = low (c .before .before .before)
 
 move-up-requires : tie.Need-move-up-requires
-move-up-requires c κs = search needs
+move-up-requires c κs =
+    let d = c .before .before .before .before in
+    (s d .pre .0 .slots .long, before-n d, omega arith)
 
 add-q : tie.Need-add-q
 add-q c = search needs
 
 returns-2 : tie.Need-returns-2
-returns-2 c = search needs
+returns-2 c =
+    let d = c .before .before .before .before .before in
+    let x = s d .args .cost in
+    subst (Inserted (s d .args .s) (s d .args .k) (entry (s d)) (p d))
+    (λ t. record {
+      costs = set (p d .costs) (j d) (sym (read64 x (s d .fits .cost .sfits)) t);
+      plans = sym (c .before .before .write-row .ensures) t;
+      splits = set (p d .splits) (j d) (s d .args .split);
+      barred = set (p d .barred) (j d) (s d .args .mask);
+      order = sym (c .move-up .ensures) t;
+      count = n d + 1;
+    })
+    (inserted d)
 
 pub insert-spec : {M : Type 1} → statement M
 insert-spec =

@@ -1,22 +1,17 @@
 -- The plans agree on the first i bytes.
 -- Assumes nothing.
-use mathlib.Core.Path.{_≡_, refl, sym, ap, _∙_, subst}
-use mathlib.Core.Bool.{Bool, true, false}
-use mathlib.Core.List.{List, _++_, append-nil}
+use mathlib.Core.Path.{_≡_, refl, sym, ap, _∙_}
+use mathlib.Core.List.{List}
 use Prim.Native.Nat.{ℕ, _≤_, _<_, _+_, _*_, _-_}
 use native.Mathlib.Omega.{arith}
-use native.Mathlib.Numerals.{add-one}
 use lib.Dec.{ltb}
-use lib.ListN.{length, length-drop, length-set, getD, set, take, drop}
-use lib.Seq.{paste, paste-zero, paste-suc, take-all, drop-length, length-take-le}
+use lib.ListN.{length, getD, drop}
 use Rattle.model.specs.Order.{lower}
 use Rattle.pool.specs.Entries.{row}
 use Rattle.pool.proofs.Rows.{row-long, row-at, lower-equal, lower-differ, lower-end}
 use borrow.Author.Needs.{needs}
 use Rattle.pool.proofs.lower_bytes.Statement.{statement}
 use Rattle.pool.proofs.lower_bytes.Tie as tie
-use Rattle.pool.proofs.lower_bytes.Reads as reads
-use Rattle.pool.proofs.lower_bytes.Lts as lts
 
 abbrev Inv-loop : tie.InvT-loop
 Inv-loop plans j s plan base i₀ i = (i ≤ s) × (lower plan (row s plans j) ≡ lower (drop i plan) (drop i (row s plans j)))
@@ -73,11 +68,12 @@ loop-again : tie.Need-loop-again Inv-loop μ-loop
 loop-again c =
     let e = c .before in
     let l = e .before .before .before in
-    let s = l .before in
-    ( omega arith
-    , l .loop .inv .1
-      ∙ lower-equal (s .args .plan .now) (r s) (l .loop .i) (omega arith) (inside s (l .loop .i) (omega arith))
-      (c .if1 .left ∙ sym (at s (l .loop .i) (omega arith))))
+    let s = l .before in (
+      omega arith,
+      l .loop .inv .1
+          ∙ lower-equal (s .args .plan .now) (r s) (l .loop .i) (omega arith) (inside s (l .loop .i) (omega arith))
+          (c .if1 .left ∙ sym (at s (l .loop .i) (omega arith))),
+    )
 
 returns-2 : tie.Need-returns-2 Inv-loop μ-loop
 returns-2 c =

@@ -1,20 +1,12 @@
 -- The first t places hold the slots after the first.
 -- Assumes nothing.
-use mathlib.Core.Path.{_≡_, refl, sym, ap, _∙_, subst}
-use mathlib.Core.Bool.{Bool, true, false}
-use mathlib.Core.List.{List, _++_, append-nil}
-use Prim.Native.Nat.{ℕ, _≤_, _<_, _+_, _*_, _-_}
+use mathlib.Core.Path.{_≡_, refl}
+use Prim.Native.Nat.{_≤_, _-_}
 use native.Mathlib.Omega.{arith}
-use native.Mathlib.Numerals.{add-one}
-use lib.ListN.{length, length-drop, length-set, getD, set, take, drop}
-use lib.Seq.{paste, paste-zero, paste-suc, take-all, drop-length, length-take-le}
-use Rattle.pool.specs.Entries.{movedBack}
 use Rattle.pool.proofs.Moves.{movedTo, to-more, to-end}
 use borrow.Author.Needs.{needs}
 use Rattle.pool.proofs.move_back.Statement.{statement}
 use Rattle.pool.proofs.move_back.Tie as tie
-use Rattle.pool.proofs.move_back.Reads as reads
-use Rattle.pool.proofs.move_back.Lts as lts
 
 abbrev Inv-loop : tie.InvT-loop
 Inv-loop order₀ n slot last t₀ order t = (t ≤ last) × (order ≡ movedTo order₀ t)

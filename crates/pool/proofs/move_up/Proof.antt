@@ -1,20 +1,12 @@
 -- The slots from place t on have moved.
 -- Assumes nothing.
-use mathlib.Core.Path.{_≡_, refl, sym, ap, _∙_, subst}
-use mathlib.Core.Bool.{Bool, true, false}
-use mathlib.Core.List.{List, _++_, append-nil}
-use Prim.Native.Nat.{ℕ, _≤_, _<_, _+_, _*_, _-_}
+use mathlib.Core.Path.{_≡_}
+use Prim.Native.Nat.{_≤_, _-_}
 use native.Mathlib.Omega.{arith}
-use native.Mathlib.Numerals.{add-one}
-use lib.ListN.{length, length-drop, length-set, getD, set, take, drop}
-use lib.Seq.{paste, paste-zero, paste-suc, take-all, drop-length, length-take-le}
-use Rattle.pool.specs.Entries.{movedUp}
 use Rattle.pool.proofs.Moves.{movedFrom, from-start, from-more, from-end}
 use borrow.Author.Needs.{needs}
 use Rattle.pool.proofs.move_up.Statement.{statement}
 use Rattle.pool.proofs.move_up.Tie as tie
-use Rattle.pool.proofs.move_up.Reads as reads
-use Rattle.pool.proofs.move_up.Lts as lts
 
 abbrev Inv-loop : tie.InvT-loop
 Inv-loop order₀ i n slot t₀ order t = (i ≤ t) × (t ≤ n) × (order ≡ movedFrom order₀ n t)
@@ -55,10 +47,11 @@ loop-less c = search needs
 loop-again : tie.Need-loop-again Inv-loop μ-loop
 loop-again c =
     let l = c .before .before in
-    let s = l .before .before in
-    ( omega arith
-    , omega arith
-    , rw (l .loop .inv .2) (from-more (s .args .order .now) (s .args .n) (l .loop .t) (omega arith) (omega arith) (omega arith)))
+    let s = l .before .before in (
+      omega arith,
+      omega arith,
+      rw (l .loop .inv .2) (from-more (s .args .order .now) (s .args .n) (l .loop .t) (omega arith) (omega arith) (omega arith)),
+    )
 
 mul-order-3 : tie.Need-mul-order-3 Inv-loop μ-loop
 mul-order-3 c = search needs

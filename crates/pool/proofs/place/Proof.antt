@@ -1,33 +1,33 @@
--- None of the first i is after the candidate.
+-- The candidate comes before none of the first i.
 -- Assumes nothing.
-use mathlib.Core.Path.{_≡_, refl, sym, ap, _∙_, subst}
-use mathlib.Core.Bool.{Bool, true, false}
-use mathlib.Core.List.{List, _++_, append-nil}
-use Prim.Native.Nat.{ℕ, _≤_, _<_, _+_, _*_, _-_}
+use mathlib.Core.Path.{_≡_, sym, ap, _∙_}
+use mathlib.Core.Bool.{Bool}
+use mathlib.Core.List.{List}
+use Prim.Native.Nat.{ℕ, _≤_, _<_, _+_, _-_}
 use native.Mathlib.Omega.{arith}
-use native.Mathlib.Numerals.{add-one}
 use mir.Syntax.{w64}
-use mir.Val.{toZ}
-use lib.ListN.{length, length-drop, length-set, getD, set, take, drop}
+use mir.Val.{toZ, ofZ}
+use lib.ListN.{length, getD, take, drop}
+use lib.Seq.{length-take-le, getD-take}
+use Rattle.costs.proofs.Sums.{read64}
 use Rattle.pool.specs.Entries.{earlierThan, firstYes}
 use Rattle.pool.proofs.Moves.{slot-low}
-use Rattle.pool.proofs.Insertion.{yes-here, yes-later}
+use Rattle.pool.proofs.Insertion.{yes-none, yes-here, yes-later}
 use borrow.Author.Needs.{needs}
 use Rattle.pool.proofs.place.Statement.{statement}
 use Rattle.pool.proofs.place.Tie as tie
-use Rattle.pool.proofs.place.Reads as reads
-use Rattle.pool.proofs.place.Lts as lts
-use Rattle.pool.proofs.earlier.Reads as earlier-reads
 
 abbrev Inv-loop : tie.InvT-loop
-Inv-loop costs plans order n s cost plan i₀ i = 
-    (i ≤ n) × (firstYes (earlierThan (toZ w64 cost) plan s costs plans) (take n order) ≡ i + firstYes (earlierThan (toZ w64 cost) plan s costs plans) (drop i (take n order)))
+Inv-loop costs plans order n s cost plan i₀ i =
+    (i ≤ n)
+    × (firstYes (earlierThan (toZ w64 cost) plan s costs plans) (take n order)
+    ≡ i + firstYes (earlierThan (toZ w64 cost) plan s costs plans) (drop i (take n order)))
 
 abbrev μ-loop : tie.MeasureT-loop
 μ-loop costs plans order n s cost plan i₀ i = n - i
 
 loop-holds : tie.Need-loop-holds Inv-loop μ-loop
-loop-holds c = ?
+loop-holds c = (omega arith, omega arith)
 
 mul-earlier : tie.Need-mul-earlier Inv-loop μ-loop
 mul-earlier c = search needs
@@ -36,10 +36,38 @@ element-copy-out-earlier : tie.Need-element-copy-out-earlier Inv-loop μ-loop
 element-copy-out-earlier c = search needs
 
 earlier-requires : tie.Need-earlier-requires Inv-loop μ-loop
-earlier-requires c κs = ?
+earlier-requires c κs =
+    let s = c .before .before .before .before in
+    (s .pre .0, slot-low (s .pre .1) (c .before .before .loop .i) (omega arith), s .pre .3, s .pre .4)
+
+-- the slots that are searched
+module _ (s : tie.Start Inv-loop μ-loop) where
+  abbrev xs : List ℕ
+  xs = take (s .args .n) (s .args .order .now)
+
+  cost-is : toZ w64 (ofZ w64 (s .args .cost)) ≡ s .args .cost
+  cost-is = read64 (s .args .cost) (s .fits .cost .sfits)
+
+  abbrev test : ℕ → Bool
+  test = earlierThan (toZ w64 (ofZ w64 (s .args .cost))) (s .args .plan .now) (s .args .s) (s .args .costs .now) (s .args .plans .now)
+
+  long : length xs ≡ s .args .n
+  long = length-take-le (s .args .n) (s .args .order .now) (omega (arith, s .pre .1 .long))
+
+  inside : (i : ℕ) → i < s .args .n → i < length xs
+  inside i h = omega (arith, long)
+
+  at : (i : ℕ) → i < s .args .n → getD xs i 0 ≡ getD (s .args .order .now) i 0
+  at i h = getD-take (s .args .n) (s .args .order .now) i 0 h
 
 returns : tie.Need-returns Inv-loop μ-loop
-returns c = ?
+returns c =
+    let l = c .before .before .before .before in
+    let s = l .before .before in
+    rw (← cost-is s)
+    (yes-here (test s) (xs s) (l .loop .i) (inside s (l .loop .i) (omega arith))
+    (ap (test s) (at s (l .loop .i) (omega arith)) ∙ sym (c .before .earlier .ensures) ∙ c .if1 .taken)
+    ∙ sym (l .loop .inv .1))
 
 add-i : tie.Need-add-i Inv-loop μ-loop
 add-i c = search needs
@@ -48,10 +76,20 @@ loop-less : tie.Need-loop-less Inv-loop μ-loop
 loop-less c = omega arith
 
 loop-again : tie.Need-loop-again Inv-loop μ-loop
-loop-again c = ?
+loop-again c =
+    let l = c .before .before .before .before in
+    let s = l .before .before in (
+      omega arith,
+      l .loop .inv .1
+          ∙ yes-later (test s) (xs s) (l .loop .i) (inside s (l .loop .i) (omega arith))
+          (ap (test s) (at s (l .loop .i) (omega arith)) ∙ sym (c .before .earlier .ensures) ∙ c .if1 .left),
+    )
 
 returns-2 : tie.Need-returns-2 Inv-loop μ-loop
-returns-2 c = ?
+returns-2 c =
+    let l = c .before in
+    let s = l .before .before in
+    rw (← cost-is s) (sym (l .loop .inv .1 ∙ yes-none (test s) (xs s) (l .loop .i) (omega (arith, long s))))
 
 pub place-spec : {M : Type 1} → statement M
 place-spec =

@@ -1,18 +1,13 @@
 -- The first i bytes are written.
 -- Assumes nothing.
-use mathlib.Core.Path.{_≡_, refl, sym, ap, _∙_, subst}
-use mathlib.Core.Bool.{Bool, true, false}
-use mathlib.Core.List.{List, _++_, append-nil}
-use Prim.Native.Nat.{ℕ, _≤_, _<_, _+_, _*_, _-_}
+use mathlib.Core.Path.{_≡_}
+use Prim.Native.Nat.{_≤_, _*_, _-_}
 use native.Mathlib.Omega.{arith}
 use native.Mathlib.Numerals.{add-one}
-use lib.ListN.{length, length-drop, length-set, getD, set, take, drop}
-use lib.Seq.{paste, paste-zero, paste-suc, take-all, drop-length, length-take-le}
+use lib.Seq.{paste, paste-zero, paste-suc}
 use borrow.Author.Needs.{needs}
 use Rattle.pool.proofs.write_row.Statement.{statement}
 use Rattle.pool.proofs.write_row.Tie as tie
-use Rattle.pool.proofs.write_row.Reads as reads
-use Rattle.pool.proofs.write_row.Lts as lts
 
 abbrev Inv-loop : tie.InvT-loop
 Inv-loop plans₀ j s plan base i₀ plans i = (i ≤ s) × (plans ≡ paste plans₀ (j * 64) plan i)
@@ -44,9 +39,10 @@ loop-less c = search needs
 loop-again : tie.Need-loop-again Inv-loop μ-loop
 loop-again c =
     let l = c .before .before in
-    let s = l .before .args in
-    ( omega arith
-    , rw (l .loop .inv .1, add-one) (paste-suc (s .plans .now) (s .j * 64) (s .plan .now) (l .loop .i) 0 (omega arith) (omega arith)))
+    let s = l .before .args in (
+      omega arith,
+      rw (l .loop .inv .1, add-one) (paste-suc (s .plans .now) (s .j * 64) (s .plan .now) (l .loop .i) 0 (omega arith) (omega arith)),
+    )
 
 returns : tie.Need-returns Inv-loop μ-loop
 returns c =
