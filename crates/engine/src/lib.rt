@@ -36,3 +36,36 @@ fn add_child(b: &[i32], z: Sizes, x: &[usize; 192], q: &[i64; 512], best: &[usiz
     build::build(b, z, x, best, plan, p, c, &mut row[..s]);
     pool::insert(pool, k, s, cost, &row[..s], p, mask)
 }
+
+// The pool with the child of e at state p, if e reaches p and an action is left there.
+fn split_state(b: &[i32], z: Sizes, x: &[usize; 192], q: &[i64; 512], best: &[usize; 64], w: &[usize; 64], plan: &[u8], e: Parent, p: usize, k: usize, pool: Pool) -> Pool
+    requires { ⌜ Ready (now b) z (now x) (now q) (now best) × Parenting (now b) e (now plan) (now w) × (e .split ≤ p) × (p < stateCount (now b)) × Waiting k pool ⌝ }
+    ensures { λ r. ⌜ Waiting k r × (entries (stateCount (now (b .entry))) r ≡ admitted (now (b .entry)) k (entryOf e (now (plan .entry))) p (entries (stateCount (now (b .entry))) pool)) ⌝ }
+{
+    let f = plan[p] as usize;
+    if f == 255 {
+        return pool;
+    }
+    let mask = child::mask_at(e.split, e.mask, p, f);
+    let n = index::count(b, z, p);
+    let c = table::best_action(q, p, n, mask);
+    if c == 255 {
+        return pool;
+    }
+    add_child(b, z, x, q, best, w, plan, e, p, c, mask, k, pool)
+}
+
+// The pool with all children of e.
+fn split_all(b: &[i32], z: Sizes, x: &[usize; 192], q: &[i64; 512], best: &[usize; 64], w: &[usize; 64], plan: &[u8], e: Parent, k: usize, start: Pool) -> Pool
+    requires { ⌜ Ready (now b) z (now x) (now q) (now best) × Parenting (now b) e (now plan) (now w) × (e .split < stateCount (now b)) × Waiting k start ⌝ }
+    ensures { λ r. ⌜ Waiting k r × (entries (stateCount (now (b .entry))) r ≡ admittedFrom (now (b .entry)) k (entryOf e (now (plan .entry))) 0 (stateCount (now (b .entry))) (entries (stateCount (now (b .entry))) start)) ⌝ }
+{
+    let s = z.s;
+    let mut pool = start;
+    let mut p = e.split;
+    while p < s {
+        pool = split_state(b, z, x, q, best, w, plan, e, p, k, pool);
+        p = p + 1;
+    }
+    pool
+}

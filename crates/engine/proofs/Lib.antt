@@ -1,0 +1,3 @@
+pub mod Child
+pub mod State
+pub mod States
