@@ -1,3 +1,4 @@
 pub mod Child
 pub mod State
 pub mod States
+pub mod First

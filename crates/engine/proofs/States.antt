@@ -5,6 +5,7 @@ use mathlib.Core.Bool.{Bool, true, false, not, _&&_}
 use mathlib.Core.List.{List, [], _∷_}
 use Prim.Native.Nat.{ℕ, zero, suc, _+_, _-_, _≤_, _<_}
 use native.Mathlib.Nat.{zero-add}
+use native.Mathlib.Decide.{decLt}
 use native.Mathlib.Omega.{arith}
 use borrow.Author.Tests.{lt-leb}
 use lib.Dec.{eqb}
@@ -35,11 +36,23 @@ module _ (ws : Words) (e : Entry) where
       (lt-leb (e .split) p (omega arith))
       ∙ skip m (suc p) n (omega arith)
 
-  pub from-split : (k n : ℕ) (es : List Entry) → e .split ≤ n → admittedFrom ws k e (e .split) (n - e .split) es ≡ admittedFrom ws k e 0 n es
-  from-split k n es h =
-      let all : e .split + (n - e .split) ≡ n = omega arith in
-      ap (λ (cs : List Entry). admit earlierEntry itself k cs es)
-      (sym (skip (e .split) 0 (n - e .split) (zero-add (e .split))) ∙ ap (childEntries ws e 0) all)
+  none-yet : (n p : ℕ) → p + n ≤ e .split → childEntries ws e p n ≡ []
+  none-yet zero p h = refl
+  none-yet (suc n) p h =
+      ap (λ (t : Bool). addIf (t && not (eqb (byteAt (e .plan) p) 255)) (left ws p (maskAt e p)) (childEntry ws e p) (childEntries ws e (suc p) n))
+      (lt-leb (e .split) p (omega arith))
+      ∙ none-yet n (suc p) (omega arith)
+
+  pub from-split : (k n : ℕ) (es : List Entry) → admittedFrom ws k e (e .split) (n - e .split) es ≡ admittedFrom ws k e 0 n es
+  from-split k n es = ap (λ (cs : List Entry). admit earlierEntry itself k cs es) (go (decLt n (e .split)))
+    where
+      go : Dec (n < e .split) → childEntries ws e (e .split) (n - e .split) ≡ childEntries ws e 0 n
+      go (yes l) =
+          let none : n - e .split ≡ 0 = omega arith in
+          ap (childEntries ws e (e .split)) none ∙ sym (none-yet n 0 (omega arith))
+      go (no l) =
+          let all : e .split + (n - e .split) ≡ n = omega arith in
+          sym (skip (e .split) 0 (n - e .split) (zero-add (e .split))) ∙ ap (childEntries ws e 0) all
 
   pub state-more : (k p n : ℕ) (es : List Entry) → p < n → admittedFrom ws k e p (n - p) es ≡ admittedFrom ws k e (p + 1) (n - (p + 1)) (admitted ws k e p es)
   state-more k p n es h =

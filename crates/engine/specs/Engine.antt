@@ -1,7 +1,7 @@
 -- What the search asks of its parts and what each step makes of the pool.
 -- Assumes nothing.
 use mathlib.Core.Path.{_≡_}
-use mathlib.Core.List.{List, []}
+use mathlib.Core.List.{List, [], _∷_}
 use Prim.Native.Nat.{ℕ, _-_, _≤_, _<_}
 use lib.IntN.{ℤ}
 use lib.ListN.{take}
@@ -23,7 +23,7 @@ use Rattle.pool.specs.declared.Pool.{Pool}
 use Rattle.splits.specs.Search.{admit}
 use Rattle.stored.specs.Lists.{left}
 use Rattle.stored.specs.Children.{Right, maskAt, childEntry, addIf, splitsAt, childEntries}
-use Rattle.stored.specs.Runs.{itself}
+use Rattle.stored.specs.Runs.{itself, childrenOf}
 use Rattle.engine.specs.declared.Parent.{Parent}
 
 -- a checked book with its sizes, its index, its table of action costs and its first best actions
@@ -69,3 +69,8 @@ admitted ws k e p es = admit earlierEntry itself k (addIf (splitsAt e p) (left w
 -- after all those of the n states from p on
 abbrev pub admittedFrom : Words → ℕ → Entry → ℕ → ℕ → List Entry → List Entry
 admittedFrom ws k e p n es = admit earlierEntry itself k (childEntries ws e p n) es
+
+-- the entries after the first was taken away and its children joined the others
+abbrev pub splitPool : Words → ℕ → List Entry → List Entry
+splitPool ws k [] = []
+splitPool ws k (e ∷ es) = admit earlierEntry itself k (childrenOf ws e) es

@@ -8,8 +8,9 @@ ghost use Prim.Native.Nat.{_*_, _-_, _<_, _≤_};
 ghost use lib.ListN.{length};
 ghost use Rattle.model.specs.Model.{stateCount, actionCount};
 ghost use Rattle.model.specs.Path.{byteAt};
-ghost use Rattle.engine.specs.Engine.{Ready, Parenting, Waiting, ChildAt, entryOf, joined, admitted, admittedFrom};
-ghost use Rattle.pool.specs.Entries.{entries};
+ghost use Rattle.engine.specs.Engine.{Ready, Parenting, Waiting, ChildAt, entryOf, joined, admitted, admittedFrom, splitPool};
+ghost use Rattle.pool.specs.Entries.{entries, firstEntry};
+ghost use Rattle.stored.specs.Children.{Right};
 
 // The candidate whose first policy is listed: its cost, its split state and the set of actions barred there. Its bytes are lent beside it.
 pub struct Parent {
@@ -57,7 +58,7 @@ fn split_state(b: &[i32], z: Sizes, x: &[usize; 192], q: &[i64; 512], best: &[us
 
 // The pool with all children of e.
 fn split_all(b: &[i32], z: Sizes, x: &[usize; 192], q: &[i64; 512], best: &[usize; 64], w: &[usize; 64], plan: &[u8], e: Parent, k: usize, start: Pool) -> Pool
-    requires { ⌜ Ready (now b) z (now x) (now q) (now best) × Parenting (now b) e (now plan) (now w) × (e .split < stateCount (now b)) × Waiting k start ⌝ }
+    requires { ⌜ Ready (now b) z (now x) (now q) (now best) × Parenting (now b) e (now plan) (now w) × Waiting k start ⌝ }
     ensures { λ r. ⌜ Waiting k r × (entries (stateCount (now (b .entry))) r ≡ admittedFrom (now (b .entry)) k (entryOf e (now (plan .entry))) 0 (stateCount (now (b .entry))) (entries (stateCount (now (b .entry))) start)) ⌝ }
 {
     let s = z.s;
@@ -68,4 +69,18 @@ fn split_all(b: &[i32], z: Sizes, x: &[usize; 192], q: &[i64; 512], best: &[usiz
         p = p + 1;
     }
     pool
+}
+
+// The pool after its first candidate, whose bytes are lent, is split.
+fn split_first(b: &[i32], z: Sizes, x: &[usize; 192], q: &[i64; 512], best: &[usize; 64], k: usize, pool: Pool, plan: &[u8]) -> Pool
+    requires { ⌜ Ready (now b) z (now x) (now q) (now best) × Waiting k pool × (1 ≤ pool .count) × Right (now b) (firstEntry (stateCount (now b)) pool) × (now plan ≡ firstEntry (stateCount (now b)) pool .plan) ⌝ }
+    ensures { λ r. ⌜ Waiting k r × (entries (stateCount (now (b .entry))) r ≡ splitPool (now (b .entry)) k (entries (stateCount (now (b .entry))) pool)) ⌝ }
+{
+    let cost = pool::first_cost(pool);
+    let split = pool::first_split(pool);
+    let mask = pool::first_mask(pool);
+    let rest = pool::pop(pool);
+    let w = reach::reach_weights(b, z, x, plan);
+    let e = Parent { cost: cost, split: split, mask: mask };
+    split_all(b, z, x, q, best, &w, plan, e, k, rest)
 }

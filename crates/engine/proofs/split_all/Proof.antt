@@ -13,7 +13,7 @@ use Rattle.engine.proofs.split_all.Tie as tie
 
 abbrev Inv-loop : tie.InvT-loop
 Inv-loop b z x q best w plan e k s pool₀ p₀ pool p =
-    Waiting k pool × (e .split ≤ p) × (p ≤ s) × (s ≡ stateCount b)
+    Waiting k pool × (e .split ≤ p) × (s ≡ stateCount b)
     × (admittedFrom b k (entryOf e plan) p (s - p) (entries (stateCount b) pool) ≡ admittedFrom b k (entryOf e plan) 0 s (entries (stateCount b) pool₀))
 
 abbrev μ-loop : tie.MeasureT-loop
@@ -22,21 +22,19 @@ abbrev μ-loop : tie.MeasureT-loop
 loop-holds : tie.Need-loop-holds Inv-loop μ-loop
 loop-holds c =
     let s = c .before in
-    let n : s .args .z .s ≡ stateCount (s .args .b .now) = s .pre .0 .sizes .s-is in
-    let l : s .args .e .split ≤ s .args .z .s = omega (arith, s .pre .2) in
-    (s .pre .3, omega arith, l, n
-    , from-split (s .args .b .now) (entryOf (s .args .e) (s .args .plan .now)) (s .args .k) (s .args .z .s) (entries (stateCount (s .args .b .now)) (s .args .start)) l)
+    (s .pre .2, omega arith, s .pre .0 .sizes .s-is
+    , from-split (s .args .b .now) (entryOf (s .args .e) (s .args .plan .now)) (s .args .k) (s .args .z .s) (entries (stateCount (s .args .b .now)) (s .args .start)))
 
 split-state-requires : tie.Need-split-state-requires Inv-loop μ-loop
 split-state-requires c κs =
     let s = c .before .before .before in
     let i = c .before .loop .inv in
-    (s .pre .0, s .pre .1, i .1, omega (arith, i .3), i .0)
+    (s .pre .0, s .pre .1, i .1, omega (arith, i .2), i .0)
 
 add-p : tie.Need-add-p Inv-loop μ-loop
 add-p c =
     let s = c .before .before .before .before in
-    omega (arith, c .before .before .loop .inv .3, accepted (s .args .b .now) (s .pre .0 .ok) .sizes .s-high)
+    omega (arith, c .before .before .loop .inv .2, accepted (s .args .b .now) (s .pre .0 .ok) .sizes .s-high)
 
 loop-less : tie.Need-loop-less Inv-loop μ-loop
 loop-less c = omega arith
@@ -49,9 +47,9 @@ loop-again c =
     let en = entryOf (s .args .e) (s .args .plan .now) in
     let n = s .args .z .s in
     let p = c .before .before .loop .p in
-    (c .split-state .ensures .0, omega (arith, i .1), omega arith, i .3
+    (c .split-state .ensures .0, omega (arith, i .1), i .2
     , ap (admittedFrom ws (s .args .k) en (p + 1) (n - (p + 1))) (c .split-state .ensures .1)
-      ∙ sym (state-more ws en (s .args .k) p n (entries (stateCount ws) (c .before .before .loop .pool)) (omega arith)) ∙ i .4)
+      ∙ sym (state-more ws en (s .args .k) p n (entries (stateCount ws) (c .before .before .loop .pool)) (omega arith)) ∙ i .3)
 
 returns : tie.Need-returns Inv-loop μ-loop
 returns c =
@@ -60,8 +58,8 @@ returns c =
     let ws = s .args .b .now in
     let en = entryOf (s .args .e) (s .args .plan .now) in
     ( i .0
-    , sym (states-end ws en (s .args .k) (c .before .loop .p) (s .args .z .s) (entries (stateCount ws) (c .before .loop .pool)) (omega arith)) ∙ i .4
-      ∙ ap (λ (n : ℕ). admittedFrom ws (s .args .k) en 0 n (entries (stateCount ws) (s .args .start))) (i .3))
+    , sym (states-end ws en (s .args .k) (c .before .loop .p) (s .args .z .s) (entries (stateCount ws) (c .before .loop .pool)) (omega arith)) ∙ i .3
+      ∙ ap (λ (n : ℕ). admittedFrom ws (s .args .k) en 0 n (entries (stateCount ws) (s .args .start))) (i .2))
 
 pub split-all-spec : {M : Type 1} → statement M
 split-all-spec =
