@@ -2,3 +2,4 @@ pub mod Child
 pub mod State
 pub mod States
 pub mod First
+pub mod Parts

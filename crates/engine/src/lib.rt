@@ -4,13 +4,14 @@
 use book::Sizes;
 use pool::Pool;
 ghost use mathlib.Core.Path.{_≡_};
-ghost use Prim.Native.Nat.{_*_, _-_, _<_, _≤_};
-ghost use lib.ListN.{length};
+ghost use Prim.Native.Nat.{_+_, _*_, _<_, _≤_};
+ghost use lib.ListN.{length, set};
 ghost use Rattle.model.specs.Model.{stateCount, actionCount};
 ghost use Rattle.model.specs.Path.{byteAt};
 ghost use Rattle.engine.specs.Engine.{Ready, Parenting, Waiting, ChildAt, entryOf, joined, admitted, admittedFrom, splitPool};
 ghost use Rattle.pool.specs.Entries.{entries, firstEntry};
 ghost use Rattle.stored.specs.Children.{Right};
+ghost use Rattle.bytes_io.specs.Slices.{written};
 
 // The candidate whose first policy is listed: its cost, its split state and the set of actions barred there. Its bytes are lent beside it.
 pub struct Parent {
@@ -83,4 +84,17 @@ fn split_first(b: &[i32], z: Sizes, x: &[usize; 192], q: &[i64; 512], best: &[us
     let w = reach::reach_weights(b, z, x, plan);
     let e = Parent { cost: cost, split: split, mask: mask };
     split_all(b, z, x, q, best, &w, plan, e, k, rest)
+}
+
+// The first policy that waits is listed as policy j, and its candidate is split.
+fn list_one(b: &[i32], z: Sizes, x: &[usize; 192], q: &[i64; 512], best: &[usize; 64], j: usize, k: usize, pool: Pool, costs: &mut [i64], plans: &mut [u8]) -> Pool
+    requires { ⌜ Ready (now b) z (now x) (now q) (now best) × Waiting k pool × (1 ≤ pool .count) × Right (now b) (firstEntry (stateCount (now b)) pool) × (j < k) × (j < length (now costs)) × (j * stateCount (now b) + stateCount (now b) ≤ length (now plans)) ⌝ }
+    ensures { λ r. ⌜ Waiting k r × (entries (stateCount (now (b .entry))) r ≡ splitPool (now (b .entry)) k (entries (stateCount (now (b .entry))) pool)) × (now (costs .exit) ≡ set (now (costs .entry)) j (firstEntry (stateCount (now (b .entry))) pool .cost)) × (now (plans .exit) ≡ written (now (plans .entry)) (j * stateCount (now (b .entry))) (stateCount (now (b .entry))) (firstEntry (stateCount (now (b .entry))) pool .plan)) ⌝ }
+{
+    let s = z.s;
+    let at = j * s;
+    let to = at + s;
+    costs[j] = pool::first_cost(pool);
+    pool::first_plan(pool, s, &mut plans[at..to]);
+    split_first(b, z, x, q, best, k, pool, &plans[at..to])
 }

@@ -1,0 +1,30 @@
+-- A part of a slice that is written and then read.
+-- Assumes nothing.
+use mathlib.Core.Path.{_≡_, refl, sym, ap, ap₂, _∙_, subst}
+use mathlib.Core.List.{List, _++_, append-assoc}
+use Prim.Native.Nat.{ℕ, _+_, _-_, _≤_}
+use native.Mathlib.Omega.{arith}
+use lib.ListN.{length, take, drop, length-drop, length-append}
+use lib.Seq.{length-take-le, take-at, drop-at, drop-drop}
+use borrow.Rule.Slice.PartMut.{putMid, same-len-mid, post-is}
+use Rattle.bytes_io.specs.Slices.{written}
+
+module _ (o : List ℕ) (a s S : ℕ) (same : s ≡ S) (room : a + s ≤ length o) where
+  pub part-long : length (take (a + s - a) (drop a o)) ≡ s
+  part-long = length-take-le (a + s - a) (drop a o) (omega (arith, length-drop a o)) ∙ omega arith
+
+  module _ {ys : List ℕ} (xs : List ℕ) (e : ys ≡ xs) (long : length xs ≡ S) where
+    pub put-long : length (putMid a (a + s - a) o ys) ≡ length o
+    put-long = same-len-mid a (a + s - a) o ys (ap length e ∙ long ∙ sym same ∙ sym part-long)
+
+    pub put-is : putMid a (a + s - a) o ys ≡ written o a S xs
+    put-is =
+        ap (λ (zs : List ℕ). take a o ++ (zs ++ drop (a + s - a) (drop a o))) e
+        ∙ ap (λ (r : List ℕ). take a o ++ (xs ++ r)) (post-is a (a + s) o (omega arith) ∙ ap (λ (n : ℕ). drop (a + n) o) same)
+        ∙ sym (append-assoc (take a o) xs (drop (a + S) o))
+
+    pub put-read : take (a + s - a) (drop a (putMid a (a + s - a) o ys)) ≡ xs
+    put-read =
+        let k : length ys ≡ a + s - a = ap length e ∙ long ∙ sym same ∙ omega arith in
+        ap (take (a + s - a)) (drop-at (take a o) (ys ++ drop (a + s - a) (drop a o)) a (length-take-le a o (omega arith)))
+        ∙ take-at ys (drop (a + s - a) (drop a o)) (a + s - a) k ∙ e
