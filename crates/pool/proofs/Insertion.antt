@@ -24,7 +24,7 @@ use Rattle.pool.proofs.Rows.{written-long, row-same, row-other}
 -- ---- the place
 
 module _ (test : ℕ → Bool) where
-  pub yes-most : (xs : List ℕ) → firstYes test xs ≤ length xs
+  yes-most : (xs : List ℕ) → firstYes test xs ≤ length xs
   yes-most [] = omega arith
   yes-most (x ∷ xs) = go (test x) (yes-most xs)
     where
@@ -44,7 +44,7 @@ module _ (test : ℕ → Bool) where
     yes-later e = rw (drop-cons xs i 0 h, e, add-one i) (omega arith)
 
 -- insertion puts the element there
-pub insert-at : {A : Type 0} (lt : A → A → Bool) (f : ℕ → A) (a : A) (xs : List ℕ) →
+insert-at : {A : Type 0} (lt : A → A → Bool) (f : ℕ → A) (a : A) (xs : List ℕ) →
     let n = firstYes (λ j. lt a (f j)) xs in insert lt a (map f xs) ≡ map f (take n xs) ++ (a ∷ map f (drop n xs))
 insert-at lt f a [] = refl
 insert-at {A} lt f a (x ∷ xs) = go (lt a (f x)) (insert-at lt f a xs)
@@ -64,7 +64,7 @@ map-same : (f g : ℕ → Entry) (xs : List ℕ) → ((x : ℕ) → In x xs → 
 map-same f g [] h = refl
 map-same f g (x ∷ xs) h = ap₂ _∷_ (h x (inl refl)) (map-same f g xs (λ y i. h y (inr i)))
 
--- the new entry e stands after those of a and before those of b; t is what may be let go
+-- the new entry e stands after those of a and before those of b; nothing of t is kept
 kept : (a b t : List Entry) (e : Entry) (n k : ℕ) → length a + length b ≡ n → n < k → (t ≡ []) ⊎ (n + 1 ≡ k)
     → take k (a ++ (e ∷ (b ++ t))) ≡ a ++ (e ∷ b)
 kept a b t e n k h l (inl z) =

@@ -85,7 +85,7 @@ module _ (ws : Words) (ok : bookNumber ws ≡ 0) where
   take-right (suc K) [] h = tt
   take-right (suc K) (e ∷ es) h = (h .0, take-right K es (h .1))
 
-  admit-map : (K : ℕ) (cs es : List Entry) → Every (Right ws) cs → Every (Right ws) es
+  pub admit-map : (K : ℕ) (cs es : List Entry) → Every (Right ws) cs → Every (Right ws) es
       → (map (listsOf ws) (admit earlierEntry itself K cs es) ≡ admit lt (firstOf ws) K (map (listsOf ws) cs) (map (listsOf ws) es))
       × Every (Right ws) (admit earlierEntry itself K cs es)
   admit-map K [] es h k = (refl, k)

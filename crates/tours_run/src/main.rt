@@ -1,6 +1,7 @@
-// Runs tours 6, 9 and 10 of document 01, and further plans of its books, through the calls check, value and least. Each line of output says what is
-// asked, then the number that the call gives and, where it gives one, the cost.
+// Runs tours 6, 9 and 10 of document 01, and further policies of its books, through the calls check, value and least. Each line of output says
+// what is asked, then the number that the call gives and, where it gives one, the cost.
 ghost use mathlib.Core.Path.{_≡_};
+ghost use Prim.Native.Nat.{_+_, _≤_};
 ghost use lib.IntN.{natAbs};
 ghost use lib.ListN.{length};
 
@@ -24,17 +25,14 @@ fn print_signed(x: i64) {
     io::print_decimal(1, magnitude(x));
 }
 
-fn print_check(label: &[u8], no: u32) {
+fn print_number(label: &[u8], no: u32) {
     io::write_all(1, label);
     io::write_all(1, b": ");
     io::print_decimal(1, no as u64);
-    io::write_all(1, b"\n");
 }
 
 fn print_cost(label: &[u8], no: u32, cost: i64) {
-    io::write_all(1, label);
-    io::write_all(1, b": ");
-    io::print_decimal(1, no as u64);
+    print_number(label, no);
     io::write_all(1, b" ");
     print_signed(cost);
     io::write_all(1, b"\n");
@@ -42,136 +40,164 @@ fn print_cost(label: &[u8], no: u32, cost: i64) {
 
 // ---- the calls
 
-fn check(label: &[u8], b: &[i32]) {
-    print_check(label, check_book::check(b));
+fn run_check(label: &[u8], b: &[i32]) {
+    print_number(label, check_book::check(b));
+    io::write_all(1, b"\n");
 }
 
-fn value(label: &[u8], b: &[i32], plan: &[u8]) {
+fn run_value(label: &[u8], b: &[i32], plan: &[u8]) {
     let v = value::value(b, plan);
     print_cost(label, v.no, v.cost);
 }
 
-fn least(label: &[u8], b: &[i32]) {
+fn run_least(label: &[u8], b: &[i32]) {
     let v = least::least(b);
     print_cost(label, v.no, v.cost);
 }
 
-// ---- the books
+// ---- the books, row by row: sizes, states of each stage, actions of each state, left column, right column
 
-// Book A with another scale of chances, cost of the first choice of post 0, and closing cost of post 2. Its own are 2, 10 and 9.
+// Puts a row of words into a book, from word `at` on.
+fn put(b: &mut [i32], at: usize, row: &[i32])
+    requires { ⌜ at + length (now row) ≤ length (now b) ⌝ }
+    ensures { λ _. ⌜ length (now (b .exit)) ≡ length (now (b .entry)) ⌝ }
+{
+    let mut i: usize = 0;
+    while i < row.len() {
+        b[at + i] = row[i];
+        i = i + 1;
+    }
+}
+
+// Book A where the scale is 2, the cost of action 0 of state 0 is 10, and the closing cost of state 2 is 9.
 fn book_a(scale: i32, cost: i32, closing: i32) -> [i32; 22]
     ensures { λ r. ⌜ length r ≡ 22 ⌝ }
 {
-    [
-        scale, 1, 7, 1, 2, 2, 1, 1, 2, 0, 1, 1, 0, 0, 0, cost, 1, 1, 12, 2, 4, closing,
-    ]
+    let mut b = [0i32; 22];
+    put(&mut b, 0, &[scale, 1, 7]);
+    put(&mut b, 3, &[1, 2]);
+    put(&mut b, 5, &[2, 1, 1]);
+    put(&mut b, 8, &[2, 0, 1, 1, 0, 0, 0]);
+    put(&mut b, 15, &[cost, 1, 1, 12, 2, 4, closing]);
+    b
 }
 
-// Book C. Its lines: post 0 to post 1 (5), post 0 to post 2 (3), post 1 (1, or 4), post 2 (2), closing 0.
+// Book C: D = 1, H = 2; state 0 leads to state 1 at cost 5 or to state 2 at cost 3; state 1 costs 1 or 4, state 2 costs 2, closing costs 0.
 fn book_c() -> [i32; 32]
     ensures { λ r. ⌜ length r ≡ 32 ⌝ }
 {
-    [
-        1, 2, 11, 1, 2, 1, 2, 2, 1, 1, 1, 0, 1, 1, 1, 0, 1, 0, 1, 0, 0, 5, 1, 3, 1, 1, 1, 4, 1, 2, 1, 0,
-    ]
+    let mut b = [0i32; 32];
+    put(&mut b, 0, &[1, 2, 11]);
+    put(&mut b, 3, &[1, 2, 1]);
+    put(&mut b, 6, &[2, 2, 1, 1]);
+    put(&mut b, 10, &[1, 0, 1, 1, 1, 0, 1, 0, 1, 0, 0]);
+    put(&mut b, 21, &[5, 1, 3, 1, 1, 1, 4, 1, 2, 1, 0]);
+    b
 }
 
-// The book of tour 10: D = 100, H = 8, one post a stage with one choice, each cost c.
+// The book of tour 10: D = 100, H = 8, one state a stage with one action, each cost c.
 fn book_of_tour_10(c: i32) -> [i32; 55]
     ensures { λ r. ⌜ length r ≡ 55 ⌝ }
 {
-    [
-        100, 8, 17, 1, 1, 1, 1, 1, 1, 1, 1, 1, 1, 1, 1, 1, 1, 1, 1, 1, 1, 1, 0, 1, 0, 1, 0, 1, 0, 1, 0, 1, 0, 1, 0, 1,
-        0, 0, c, 100, c, 100, c, 100, c, 100, c, 100, c, 100, c, 100, c, 100, c,
-    ]
+    let mut b = [0i32; 55];
+    put(&mut b, 0, &[100, 8, 17]);
+    put(&mut b, 3, &[1; 9]);
+    put(&mut b, 12, &[1; 9]);
+    put(&mut b, 21, &[1, 0, 1, 0, 1, 0, 1, 0]);
+    put(&mut b, 29, &[1, 0, 1, 0, 1, 0, 1, 0]);
+    put(&mut b, 37, &[0]);
+    put(&mut b, 38, &[c, 100, c, 100, c, 100, c, 100]);
+    put(&mut b, 46, &[c, 100, c, 100, c, 100, c, 100]);
+    put(&mut b, 54, &[c]);
+    b
 }
 
 // ---- the tours
 
-// The plan has a choice at post 2, which choice 0 of post 0 does not reach.
+// The plan has an action at state 2, which action 0 of state 0 does not reach.
 fn tour_6() {
     let c = book_c();
-    value(b"6 value C, 0 0 0 0", &c, &[0, 0, 0, 0]);
+    run_value(b"6 value C, 0 0 0 0", &c, &[0, 0, 0, 0]);
 }
 
-// The weights of each choice still sum to 2.
+// The weights of each action still sum to 2.
 fn tour_9() {
     let a = book_a(3, 10, 9);
-    check(b"9 check A, D = 3", &a);
-    value(b"9 value A, D = 3, 1 0 255", &a, &[1, 0, 255]);
-    least(b"9 least A, D = 3", &a);
+    run_check(b"9 check A, D = 3", &a);
+    run_value(b"9 value A, D = 3, 1 0 255", &a, &[1, 0, 255]);
+    run_least(b"9 least A, D = 3", &a);
 }
 
 // 100^8 × 9 × 44 is 3.96 × 10^18, below the bound of 4 × 10^18, and 100^8 × 9 × 45 is above it.
 fn tour_10() {
     let plan = [0u8; 9];
     let low = book_of_tour_10(44);
-    check(b"10 check costs 44", &low);
-    value(b"10 value costs 44", &low, &plan);
-    least(b"10 least costs 44", &low);
+    run_check(b"10 check costs 44", &low);
+    run_value(b"10 value costs 44", &low, &plan);
+    run_least(b"10 least costs 44", &low);
     let high = book_of_tour_10(45);
-    check(b"10 check costs 45", &high);
-    value(b"10 value costs 45", &high, &plan);
-    least(b"10 least costs 45", &high);
-    let gain = book_of_tour_10(-45);
-    check(b"10 check costs -45", &gain);
-    let least_gain = book_of_tour_10(-44);
-    least(b"10 least costs -44", &least_gain);
+    run_check(b"10 check costs 45", &high);
+    run_value(b"10 value costs 45", &high, &plan);
+    run_least(b"10 least costs 45", &high);
+    let low_gain = book_of_tour_10(-44);
+    run_least(b"10 least costs -44", &low_gain);
+    let high_gain = book_of_tour_10(-45);
+    run_check(b"10 check costs -45", &high_gain);
 }
 
-// ---- plans, and slices that are none
+// ---- policies, and slices that are none
 
-fn plans_of_a() {
+fn policies_of_a() {
     let a = book_a(2, 10, 9);
-    value(b"value A, 1 0 255", &a, &[1, 0, 255]);
-    value(b"value A, 0 0 0", &a, &[0, 0, 0]);
+    run_value(b"value A, 1 0 255", &a, &[1, 0, 255]);
+    run_value(b"value A, 0 0 0", &a, &[0, 0, 0]);
     let gain = book_a(2, -10, 9);
-    value(b"value A, cost 10 made -10, 0 0 0", &gain, &[0, 0, 0]);
+    run_value(b"value A, cost 10 made -10, 0 0 0", &gain, &[0, 0, 0]);
 }
 
-fn plans_of_c() {
+fn policies_of_c() {
     let c = book_c();
-    value(b"value C, 1 255 0 0", &c, &[1, 255, 0, 0]);
-    value(b"value C, 0 0 255 0", &c, &[0, 0, 255, 0]);
-    value(b"value C, 0 1 255 0", &c, &[0, 1, 255, 0]);
+    run_value(b"value C, 1 255 0 0", &c, &[1, 255, 0, 0]);
+    run_value(b"value C, 0 0 255 0", &c, &[0, 0, 255, 0]);
+    run_value(b"value C, 0 1 255 0", &c, &[0, 1, 255, 0]);
 }
 
-// Too short, too long, no choice of a post that is reached, and a choice at a post that is not.
-fn no_plans() {
+// Too short, too long, no action of a state that is reached, and an action at a state that is not.
+fn not_policies() {
     let a = book_a(2, 10, 9);
-    value(b"value A, no byte", &a, &[]);
-    value(b"value A, 1 0", &a, &[1, 0]);
-    value(b"value A, 1 0 255 255", &a, &[1, 0, 255, 255]);
-    value(b"value A, 2 0 255", &a, &[2, 0, 255]);
-    value(b"value A, 1 1 255", &a, &[1, 1, 255]);
-    value(b"value A, 255 0 0", &a, &[255, 0, 0]);
-    value(b"value A, 1 0 0", &a, &[1, 0, 0]);
+    run_value(b"value A, no byte", &a, &[]);
+    run_value(b"value A, 1 0", &a, &[1, 0]);
+    run_value(b"value A, 1 0 255 255", &a, &[1, 0, 255, 255]);
+    run_value(b"value A, 2 0 255", &a, &[2, 0, 255]);
+    run_value(b"value A, 1 1 255", &a, &[1, 1, 255]);
+    run_value(b"value A, 255 0 0", &a, &[255, 0, 0]);
+    run_value(b"value A, 1 0 0", &a, &[1, 0, 0]);
 }
 
 fn least_costs() {
     let a = book_a(2, 10, 9);
-    least(b"least A", &a);
+    run_least(b"least A", &a);
     let equal = book_a(2, 10, 8);
-    least(b"least A, closing 9 made 8", &equal);
+    run_least(b"least A, closing 9 made 8", &equal);
     let gain = book_a(2, -10, 9);
-    least(b"least A, cost 10 made -10", &gain);
+    run_least(b"least A, cost 10 made -10", &gain);
     let c = book_c();
-    least(b"least C", &c);
+    run_least(b"least C", &c);
 }
 
 fn no_words() {
-    check(b"check no words", &[]);
-    value(b"value no words, 1 0 255", &[], &[1, 0, 255]);
-    least(b"least no words", &[]);
+    run_check(b"check no words", &[]);
+    run_value(b"value no words, 1 0 255", &[], &[1, 0, 255]);
+    run_least(b"least no words", &[]);
 }
 
 fn main() {
     tour_6();
     tour_9();
     tour_10();
-    plans_of_a();
-    plans_of_c();
-    no_plans();
+    policies_of_a();
+    policies_of_c();
+    not_policies();
     least_costs();
     no_words();
 }

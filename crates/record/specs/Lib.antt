@@ -1,0 +1,5 @@
+pub mod Listed
+pub mod Lengths
+pub mod Passed
+pub mod Carried
+pub mod Demand2
