@@ -3,3 +3,4 @@ pub mod State
 pub mod States
 pub mod First
 pub mod Parts
+pub mod Listing

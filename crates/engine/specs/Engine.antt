@@ -1,13 +1,14 @@
 -- What the search asks of its parts and what each step makes of the pool.
 -- Assumes nothing.
 use mathlib.Core.Path.{_≡_}
-use mathlib.Core.List.{List, [], _∷_}
+use mathlib.Core.List.{List, [], _∷_, map}
 use Prim.Native.Nat.{ℕ, _-_, _≤_, _<_}
 use lib.IntN.{ℤ}
-use lib.ListN.{take}
-use Rattle.model.specs.Lists.{insert}
+use lib.ListN.{length, take}
+use Rattle.model.specs.Lists.{insert, forEach}
 use Rattle.model.specs.Path.{byteAt}
 use Rattle.model.specs.Recursion.{bestOf, through}
+use Rattle.model.specs.Calls.{over}
 use Rattle.laws.specs.Members.{In}
 use Rattle.model.specs.Model.{Words, scale, stateCount, togo, actionCount, action, options}
 use Rattle.model.specs.Questions.{bookNumber}
@@ -23,7 +24,7 @@ use Rattle.pool.specs.declared.Pool.{Pool}
 use Rattle.splits.specs.Search.{admit}
 use Rattle.stored.specs.Lists.{left}
 use Rattle.stored.specs.Children.{Right, maskAt, childEntry, addIf, splitsAt, childEntries}
-use Rattle.stored.specs.Runs.{itself, childrenOf}
+use Rattle.stored.specs.Runs.{itself, childrenOf, planOf, costIn}
 use Rattle.engine.specs.declared.Parent.{Parent}
 
 -- a checked book with its sizes, its index, its table of action costs and its first best actions
@@ -74,3 +75,13 @@ admittedFrom ws k e p n es = admit earlierEntry itself k (childEntries ws e p n)
 abbrev pub splitPool : Words → ℕ → List Entry → List Entry
 splitPool ws k [] = []
 splitPool ws k (e ∷ es) = admit earlierEntry itself k (childrenOf ws e) es
+
+-- the bytes of the policies of entries, one after the other
+abbrev pub plansIn : List Entry → List ℕ
+plansIn es = forEach (λ (bs : Policy). bs) (map planOf es)
+
+-- the list l stands at the front of the two slices
+pub record Found (l : List Entry) (n : ℕ) (costs costs′ : List ℤ) (plans plans′ : List ℕ) : Type 0 where
+  pub count : n ≡ length l
+  pub costs-are : costs′ ≡ over (map costIn l) costs
+  pub plans-are : plans′ ≡ over (plansIn l) plans

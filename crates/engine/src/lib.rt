@@ -8,9 +8,11 @@ ghost use Prim.Native.Nat.{_+_, _*_, _<_, _≤_};
 ghost use lib.ListN.{length, set};
 ghost use Rattle.model.specs.Model.{stateCount, actionCount};
 ghost use Rattle.model.specs.Path.{byteAt};
-ghost use Rattle.engine.specs.Engine.{Ready, Parenting, Waiting, ChildAt, entryOf, joined, admitted, admittedFrom, splitPool};
+ghost use Rattle.engine.specs.Engine.{Ready, Parenting, Waiting, ChildAt, entryOf, joined, admitted, admittedFrom, splitPool, Found};
+ghost use Rattle.laws.specs.Members.{Every};
 ghost use Rattle.pool.specs.Entries.{entries, firstEntry};
 ghost use Rattle.stored.specs.Children.{Right};
+ghost use Rattle.stored.specs.Runs.{runEntries};
 ghost use Rattle.bytes_io.specs.Slices.{written};
 
 // The candidate whose first policy is listed: its cost, its split state and the set of actions barred there. Its bytes are lent beside it.
@@ -97,4 +99,21 @@ fn list_one(b: &[i32], z: Sizes, x: &[usize; 192], q: &[i64; 512], best: &[usize
     costs[j] = pool::first_cost(pool);
     pool::first_plan(pool, s, &mut plans[at..to]);
     split_first(b, z, x, q, best, k, pool, &plans[at..to])
+}
+
+// The first k policies by the search from the candidates that wait at the start.
+fn search(b: &[i32], z: Sizes, x: &[usize; 192], q: &[i64; 512], best: &[usize; 64], k: usize, start: Pool, costs: &mut [i64], plans: &mut [u8]) -> usize
+    requires { ⌜ Ready (now b) z (now x) (now q) (now best) × Waiting k start × Every (Right (now b)) (entries (stateCount (now b)) start) × (k ≤ length (now costs)) × (k * stateCount (now b) ≤ length (now plans)) ⌝ }
+    ensures { λ r. ⌜ Found (runEntries (now (b .entry)) k k (entries (stateCount (now (b .entry))) start)) r (now (costs .entry)) (now (costs .exit)) (now (plans .entry)) (now (plans .exit)) ⌝ }
+{
+    let mut pool = start;
+    let mut j: usize = 0;
+    while j < k {
+        if pool.count == 0 {
+            return j;
+        }
+        pool = list_one(b, z, x, q, best, j, k, pool, costs, plans);
+        j = j + 1;
+    }
+    j
 }
