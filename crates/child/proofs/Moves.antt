@@ -83,7 +83,7 @@ module _ (ws : Words) (ok : bookNumber ws ≡ 0) (e : Entry) (ri : Right ws e) (
       let size = through-bound (scale ws) C (action ws) (options ws) (cost-bound ws ok) (weights-bound ws ok) m p c in
       let a : W * natAbs (row c) ≤ W * (D ^ m * (m + 1) * C) = mul-le-mul-left W size in
       let b : (W * D ^ m) * ((m + 1) * C) ≤ D ^ horizon ws * ((horizon ws + 1) * C)
-          = mul-le-mul {n₁ = W * D ^ m} {m₁ = (m + 1) * C} {n₂ = D ^ horizon ws} {m₂ = (horizon ws + 1) * C} reach (mul-le-mul-right C (omega (arith, few))) in
+      = mul-le-mul {n₁ = W * D ^ m} {m₁ = (m + 1) * C} {n₂ = D ^ horizon ws} {m₂ = (horizon ws + 1) * C} reach (mul-le-mul-right C (omega (arith, few))) in
       omega (arith, a, b, accepted ws ok .product-bounded)
 
   pub movable : Movable (e .cost) W (row (nextAt ws ok e ri p state from small)) (row (byteAt (e .plan) p))

@@ -1,16 +1,12 @@
 -- The bytes of a child are those of the walk that keeps to its parent's before the split state and takes best actions after it.
 -- Assumes nothing.
-use mathlib.Core.Path.{_≡_, refl, sym, ap, _∙_}
-use mathlib.Core.Bool.{true}
-use mathlib.Core.Logic.{_⊎_, inl, inr}
+use mathlib.Core.Path.{_≡_, sym, ap, _∙_}
 use mathlib.Core.List.{List, [], _∷_}
-use Prim.Native.Nat.{ℕ, _+_, _≤_, _<_}
+use Prim.Native.Nat.{ℕ, _≤_, _<_}
 use native.Mathlib.Decide.{decLt}
 use native.Mathlib.Omega.{arith}
-use lib.ListN.{length}
-use Rattle.model.specs.Model.{Words, scale, stateCount, togo, actionCount, action, options}
+use Rattle.model.specs.Model.{Words, scale, stateCount, togo, action}
 use Rattle.model.specs.Questions.{bookNumber}
-use Rattle.model.specs.Policy.{Policy, isPolicy}
 use Rattle.model.specs.Path.{byteAt}
 use Rattle.model.specs.Recursion.{bestOf, through}
 use Rattle.splits.specs.Kbest.{childAt}
@@ -27,9 +23,10 @@ use Rattle.value.proofs.Bytes.{byte-cases, policy-long}
 module _ (ws : Words) (ok : bookNumber ws ≡ 0) (e : Entry) (ri : Right ws e) where
   pub usable : (p : ℕ) → p < stateCount ws → Usable ws (e .plan) p
   usable p h s l =
-      let state : s < stateCount ws = omega arith in
-      ( omega (arith, policy-long ws ok (e .plan) (plan-model ws ok e ri) s state)
-      , byte-cases ws ok (e .plan) (plan-model ws ok e ri) s state)
+      let state : s < stateCount ws = omega arith in (
+        omega (arith, policy-long ws ok (e .plan) (plan-model ws ok e ri) s state),
+        byte-cases ws ok (e .plan) (plan-model ws ok e ri) s state,
+      )
 
   module _ (p : ℕ) (state : p < stateCount ws) (from : e .split ≤ p) (small : byteAt (e .plan) p < 8) where
     pub child-plan : walkBy (action ws) (chosen ws (e .plan) p (nextAt ws ok e ri p state from small)) (stateCount ws) 0 (0 ∷ []) ≡ childEntry ws e p .plan

@@ -2,15 +2,13 @@
 -- Assumes nothing.
 use mathlib.Core.Path.{_≡_, refl, sym, ap, _∙_, subst}
 use mathlib.Core.Bool.{Bool, true, false, not, _&&_}
-use mathlib.Core.Logic.{_⊎_, inl, inr, ⊎-elim}
+use mathlib.Core.Logic.{_⊎_, inl, ⊎-elim}
 use mathlib.Core.List.{List, [], _∷_}
-use Prim.Native.Nat.{ℕ, _+_, _≤_, _<_}
-use native.Mathlib.Nat.{zero-add}
+use Prim.Native.Nat.{ℕ, _≤_, _<_}
 use native.Mathlib.Omega.{arith}
 use borrow.Author.Tests.{le-leb, ne-eqb, eq-eqb}
-use lib.Dec.{T, T-not, eqb, leb}
+use lib.Dec.{T, T-not, leb}
 use lib.IntN.{ℤ}
-use lib.ListN.{length}
 use Rattle.model.specs.Lists.{isIn}
 use Rattle.model.specs.Model.{Words, stateCount, actionCount, action}
 use Rattle.model.specs.Questions.{bookNumber}
@@ -80,10 +78,11 @@ module _ (ws : Words) (ok : bookNumber ws ≡ 0) (e : Entry) (ri : Right ws e) (
 
         go : (b : Bool) → isIn p (reached ws (e .plan)) ≡ b → Reaches (action ws) p 0 (0 ∷ []) (e .plan)
         go true q =
-            reaches-is (action ws) (shape ws ok .later) p 0 (0 ∷ []) (e .plan) .1
-            ( isIn-in p (reached ws (e .plan)) (true-T q)
-            , omega arith
-            , omega (arith, policy-long ws ok (e .plan) (plan-model ws ok e ri) p state))
+            reaches-is (action ws) (shape ws ok .later) p 0 (0 ∷ []) (e .plan) .1 (
+              isIn-in p (reached ws (e .plan)) (true-T q),
+              omega arith,
+              omega (arith, policy-long ws ok (e .plan) (plan-model ws ok e ri) p state),
+            )
         go false q =
             absurd (other (policy-bytes ws ok (e .plan) .0 is .at-other p state
             (λ i. T-not (isIn p (reached ws (e .plan))) (false-T q) (in-isIn p (reached ws (e .plan)) i))))

@@ -1,5 +1,6 @@
 pub mod Child
 pub mod State
+pub mod Start
 pub mod States
 pub mod First
 pub mod Parts

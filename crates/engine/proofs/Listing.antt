@@ -6,21 +6,18 @@ use Prim.Native.Nat.{ℕ, zero, suc, _+_, _*_, _-_, _≤_, _<_}
 use native.Mathlib.Nat.{zero-add, mul-le-mul-right}
 use native.Mathlib.Omega.{arith}
 use lib.IntN.{ℤ}
-use lib.ListN.{length, set, getD, take, drop, length-set, length-append, length-map}
-use Rattle.model.specs.Lists.{forEach}
+use lib.ListN.{length, set, getD, take, length-set, length-append, length-map}
 use Rattle.model.specs.Model.{Words, stateCount}
 use Rattle.model.specs.Questions.{bookNumber}
-use Rattle.model.specs.Policy.{Policy}
 use Rattle.model.specs.Calls.{over}
 use Rattle.laws.specs.Members.{Every}
 use Rattle.accepted.specs.Shape.{shape}
 use Rattle.value.proofs.Bytes.{policy-long}
 use Rattle.bytes_io.specs.Slices.{written}
 use Rattle.bytes_io.proofs.Parts.{written-none, set-written, written-front, length-written, written-join}
-use Rattle.splits.specs.Search.{admit}
-use Rattle.stored.specs.Entry.{Entry, earlierEntry}
+use Rattle.stored.specs.Entry.{Entry}
 use Rattle.stored.specs.Children.{Right, plan-model, children-right}
-use Rattle.stored.specs.Runs.{itself, childrenOf, runEntries, planOf, costIn, runs-are, admit-map}
+use Rattle.stored.specs.Runs.{childrenOf, runEntries, costIn, runs-are, admit-map}
 use Rattle.pool.specs.declared.Pool.{Pool}
 use Rattle.pool.specs.Entries.{Formed, entryAt, firstEntry, entries}
 use Rattle.engine.specs.Engine.{splitPool, plansIn, Found}

@@ -1,11 +1,11 @@
 -- A part of a slice that is written and then read.
 -- Assumes nothing.
-use mathlib.Core.Path.{_≡_, refl, sym, ap, ap₂, _∙_, subst}
+use mathlib.Core.Path.{_≡_, sym, ap, _∙_}
 use mathlib.Core.List.{List, _++_, append-assoc}
 use Prim.Native.Nat.{ℕ, _+_, _-_, _≤_}
 use native.Mathlib.Omega.{arith}
 use lib.ListN.{length, take, drop, length-drop, length-append}
-use lib.Seq.{length-take-le, take-at, drop-at, drop-drop}
+use lib.Seq.{length-take-le, take-at, drop-at}
 use borrow.Rule.Slice.PartMut.{putMid, same-len-mid, post-is}
 use Rattle.bytes_io.specs.Slices.{written}
 
@@ -28,3 +28,17 @@ module _ (o : List ℕ) (a s S : ℕ) (same : s ≡ S) (room : a + s ≤ length 
         let k : length ys ≡ a + s - a = ap length e ∙ long ∙ sym same ∙ omega arith in
         ap (take (a + s - a)) (drop-at (take a o) (ys ++ drop (a + s - a) (drop a o)) a (length-take-le a o (omega arith)))
         ∙ take-at ys (drop (a + s - a) (drop a o)) (a + s - a) k ∙ e
+
+-- bytes that stand before the rest of a row
+module _ {o : List ℕ} (n : ℕ) (rest bs : List ℕ) (e : o ≡ bs) (long : length bs ≡ n) where
+  same-long : length o ≡ n
+  same-long = ap length e ∙ long
+
+  pub grown : n ≤ length (o ++ rest)
+  grown = omega (arith, length-append o rest, same-long)
+
+  pub front : take n (o ++ rest) ≡ bs
+  front = take-at o rest n same-long ∙ e
+
+  pub front-long : length (take n (o ++ rest)) ≡ n
+  front-long = ap length (take-at o rest n same-long) ∙ same-long

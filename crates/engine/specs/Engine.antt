@@ -9,6 +9,7 @@ use Rattle.model.specs.Lists.{insert, forEach}
 use Rattle.model.specs.Path.{byteAt}
 use Rattle.model.specs.Recursion.{bestOf, through}
 use Rattle.model.specs.Calls.{over}
+use Rattle.accepted.specs.Demands.{bestPolicy}
 use Rattle.laws.specs.Members.{In}
 use Rattle.model.specs.Model.{Words, scale, stateCount, togo, actionCount, action, options}
 use Rattle.model.specs.Questions.{bookNumber}
@@ -23,7 +24,7 @@ use Rattle.pool.specs.Entries.{Formed}
 use Rattle.pool.specs.declared.Pool.{Pool}
 use Rattle.splits.specs.Search.{admit}
 use Rattle.stored.specs.Lists.{left}
-use Rattle.stored.specs.Children.{Right, maskAt, childEntry, addIf, splitsAt, childEntries}
+use Rattle.stored.specs.Children.{costOf, Right, maskAt, childEntry, addIf, splitsAt, childEntries}
 use Rattle.stored.specs.Runs.{itself, childrenOf, planOf, costIn}
 use Rattle.engine.specs.declared.Parent.{Parent}
 
@@ -85,3 +86,7 @@ pub record Found (l : List Entry) (n : ℕ) (costs costs′ : List ℤ) (plans p
   pub count : n ≡ length l
   pub costs-are : costs′ ≡ over (map costIn l) costs
   pub plans-are : plans′ ≡ over (plansIn l) plans
+
+-- all policies, of which the first takes the first best action at each state
+abbrev pub firstCandidate : Words → Entry
+firstCandidate ws = record { cost = costOf ws (bestPolicy ws); plan = bestPolicy ws; split = 0; mask = 0 }

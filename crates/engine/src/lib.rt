@@ -4,11 +4,15 @@
 use book::Sizes;
 use pool::Pool;
 ghost use mathlib.Core.Path.{_≡_};
+ghost use mathlib.Core.List.{[], _∷_};
 ghost use Prim.Native.Nat.{_+_, _*_, _<_, _≤_};
 ghost use lib.ListN.{length, set};
-ghost use Rattle.model.specs.Model.{stateCount, actionCount};
-ghost use Rattle.model.specs.Path.{byteAt};
-ghost use Rattle.engine.specs.Engine.{Ready, Parenting, Waiting, ChildAt, entryOf, joined, admitted, admittedFrom, splitPool, Found};
+ghost use Rattle.model.specs.Model.{stateCount};
+ghost use Rattle.model.specs.Questions.{bookNumber};
+ghost use Rattle.book.specs.Read.{SizesAre};
+ghost use Rattle.index.specs.Index.{IndexOf};
+ghost use Rattle.build.specs.Best.{BestOf};
+ghost use Rattle.engine.specs.Engine.{Ready, Parenting, Waiting, ChildAt, entryOf, joined, admitted, admittedFrom, splitPool, Found, firstCandidate};
 ghost use Rattle.laws.specs.Members.{Every};
 ghost use Rattle.pool.specs.Entries.{entries, firstEntry};
 ghost use Rattle.stored.specs.Children.{Right};
@@ -29,7 +33,21 @@ fn zeros() -> [u8; 64]
 }
 
 // The pool with the child of e that takes action c at state p.
-fn add_child(b: &[i32], z: Sizes, x: &[usize; 192], q: &[i64; 512], best: &[usize; 64], w: &[usize; 64], plan: &[u8], e: Parent, p: usize, c: usize, mask: u8, k: usize, pool: Pool) -> Pool
+fn add_child(
+    b: &[i32],
+    z: Sizes,
+    x: &[usize; 192],
+    q: &[i64; 512],
+    best: &[usize; 64],
+    w: &[usize; 64],
+    plan: &[u8],
+    e: Parent,
+    p: usize,
+    c: usize,
+    mask: u8,
+    k: usize,
+    pool: Pool,
+) -> Pool
     requires { ⌜ Ready (now b) z (now x) (now q) (now best) × Parenting (now b) e (now plan) (now w) × ChildAt (now b) (entryOf e (now plan)) p c mask × Waiting k pool ⌝ }
     ensures { λ r. ⌜ Waiting k r × (entries (stateCount (now (b .entry))) r ≡ joined (now (b .entry)) k (entryOf e (now (plan .entry))) p (entries (stateCount (now (b .entry))) pool)) ⌝ }
 {
@@ -42,7 +60,19 @@ fn add_child(b: &[i32], z: Sizes, x: &[usize; 192], q: &[i64; 512], best: &[usiz
 }
 
 // The pool with the child of e at state p, if e reaches p and an action is left there.
-fn split_state(b: &[i32], z: Sizes, x: &[usize; 192], q: &[i64; 512], best: &[usize; 64], w: &[usize; 64], plan: &[u8], e: Parent, p: usize, k: usize, pool: Pool) -> Pool
+fn split_state(
+    b: &[i32],
+    z: Sizes,
+    x: &[usize; 192],
+    q: &[i64; 512],
+    best: &[usize; 64],
+    w: &[usize; 64],
+    plan: &[u8],
+    e: Parent,
+    p: usize,
+    k: usize,
+    pool: Pool,
+) -> Pool
     requires { ⌜ Ready (now b) z (now x) (now q) (now best) × Parenting (now b) e (now plan) (now w) × (e .split ≤ p) × (p < stateCount (now b)) × Waiting k pool ⌝ }
     ensures { λ r. ⌜ Waiting k r × (entries (stateCount (now (b .entry))) r ≡ admitted (now (b .entry)) k (entryOf e (now (plan .entry))) p (entries (stateCount (now (b .entry))) pool)) ⌝ }
 {
@@ -60,7 +90,18 @@ fn split_state(b: &[i32], z: Sizes, x: &[usize; 192], q: &[i64; 512], best: &[us
 }
 
 // The pool with all children of e.
-fn split_all(b: &[i32], z: Sizes, x: &[usize; 192], q: &[i64; 512], best: &[usize; 64], w: &[usize; 64], plan: &[u8], e: Parent, k: usize, start: Pool) -> Pool
+fn split_all(
+    b: &[i32],
+    z: Sizes,
+    x: &[usize; 192],
+    q: &[i64; 512],
+    best: &[usize; 64],
+    w: &[usize; 64],
+    plan: &[u8],
+    e: Parent,
+    k: usize,
+    start: Pool,
+) -> Pool
     requires { ⌜ Ready (now b) z (now x) (now q) (now best) × Parenting (now b) e (now plan) (now w) × Waiting k start ⌝ }
     ensures { λ r. ⌜ Waiting k r × (entries (stateCount (now (b .entry))) r ≡ admittedFrom (now (b .entry)) k (entryOf e (now (plan .entry))) 0 (stateCount (now (b .entry))) (entries (stateCount (now (b .entry))) start)) ⌝ }
 {
@@ -75,7 +116,16 @@ fn split_all(b: &[i32], z: Sizes, x: &[usize; 192], q: &[i64; 512], best: &[usiz
 }
 
 // The pool after its first candidate, whose bytes are lent, is split.
-fn split_first(b: &[i32], z: Sizes, x: &[usize; 192], q: &[i64; 512], best: &[usize; 64], k: usize, pool: Pool, plan: &[u8]) -> Pool
+fn split_first(
+    b: &[i32],
+    z: Sizes,
+    x: &[usize; 192],
+    q: &[i64; 512],
+    best: &[usize; 64],
+    k: usize,
+    pool: Pool,
+    plan: &[u8],
+) -> Pool
     requires { ⌜ Ready (now b) z (now x) (now q) (now best) × Waiting k pool × (1 ≤ pool .count) × Right (now b) (firstEntry (stateCount (now b)) pool) × (now plan ≡ firstEntry (stateCount (now b)) pool .plan) ⌝ }
     ensures { λ r. ⌜ Waiting k r × (entries (stateCount (now (b .entry))) r ≡ splitPool (now (b .entry)) k (entries (stateCount (now (b .entry))) pool)) ⌝ }
 {
@@ -84,12 +134,27 @@ fn split_first(b: &[i32], z: Sizes, x: &[usize; 192], q: &[i64; 512], best: &[us
     let mask = pool::first_mask(pool);
     let rest = pool::pop(pool);
     let w = reach::reach_weights(b, z, x, plan);
-    let e = Parent { cost: cost, split: split, mask: mask };
+    let e = Parent {
+        cost: cost,
+        split: split,
+        mask: mask,
+    };
     split_all(b, z, x, q, best, &w, plan, e, k, rest)
 }
 
 // The first policy that waits is listed as policy j, and its candidate is split.
-fn list_one(b: &[i32], z: Sizes, x: &[usize; 192], q: &[i64; 512], best: &[usize; 64], j: usize, k: usize, pool: Pool, costs: &mut [i64], plans: &mut [u8]) -> Pool
+fn list_one(
+    b: &[i32],
+    z: Sizes,
+    x: &[usize; 192],
+    q: &[i64; 512],
+    best: &[usize; 64],
+    j: usize,
+    k: usize,
+    pool: Pool,
+    costs: &mut [i64],
+    plans: &mut [u8],
+) -> Pool
     requires { ⌜ Ready (now b) z (now x) (now q) (now best) × Waiting k pool × (1 ≤ pool .count) × Right (now b) (firstEntry (stateCount (now b)) pool) × (j < k) × (j < length (now costs)) × (j * stateCount (now b) + stateCount (now b) ≤ length (now plans)) ⌝ }
     ensures { λ r. ⌜ Waiting k r × (entries (stateCount (now (b .entry))) r ≡ splitPool (now (b .entry)) k (entries (stateCount (now (b .entry))) pool)) × (now (costs .exit) ≡ set (now (costs .entry)) j (firstEntry (stateCount (now (b .entry))) pool .cost)) × (now (plans .exit) ≡ written (now (plans .entry)) (j * stateCount (now (b .entry))) (stateCount (now (b .entry))) (firstEntry (stateCount (now (b .entry))) pool .plan)) ⌝ }
 {
@@ -102,7 +167,17 @@ fn list_one(b: &[i32], z: Sizes, x: &[usize; 192], q: &[i64; 512], best: &[usize
 }
 
 // The first k policies by the search from the candidates that wait at the start.
-fn search(b: &[i32], z: Sizes, x: &[usize; 192], q: &[i64; 512], best: &[usize; 64], k: usize, start: Pool, costs: &mut [i64], plans: &mut [u8]) -> usize
+fn search(
+    b: &[i32],
+    z: Sizes,
+    x: &[usize; 192],
+    q: &[i64; 512],
+    best: &[usize; 64],
+    k: usize,
+    start: Pool,
+    costs: &mut [i64],
+    plans: &mut [u8],
+) -> usize
     requires { ⌜ Ready (now b) z (now x) (now q) (now best) × Waiting k start × Every (Right (now b)) (entries (stateCount (now b)) start) × (k ≤ length (now costs)) × (k * stateCount (now b) ≤ length (now plans)) ⌝ }
     ensures { λ r. ⌜ Found (runEntries (now (b .entry)) k k (entries (stateCount (now (b .entry))) start)) r (now (costs .entry)) (now (costs .exit)) (now (plans .entry)) (now (plans .exit)) ⌝ }
 {
@@ -116,4 +191,24 @@ fn search(b: &[i32], z: Sizes, x: &[usize; 192], q: &[i64; 512], best: &[usize; 
         j = j + 1;
     }
     j
+}
+
+// The pool with the first candidate: all policies, of which the first takes the first best actions and costs `cost`.
+fn first_pool(
+    b: &[i32],
+    z: Sizes,
+    x: &[usize; 192],
+    best: &[usize; 64],
+    cost: i64,
+    k: usize,
+) -> Pool
+    requires { ⌜ (bookNumber (now b) ≡ 0) × SizesAre (now b) z × IndexOf (now b) (now x) × BestOf (now b) (now best) × (cost ≡ firstCandidate (now b) .cost) × (1 ≤ k) × (k ≤ 64) ⌝ }
+    ensures { λ r. ⌜ Waiting k r × (entries (stateCount (now (b .entry))) r ≡ firstCandidate (now (b .entry)) ∷ []) ⌝ }
+{
+    let s = z.s;
+    let first = best[0];
+    let none = zeros();
+    let mut row = zeros();
+    build::build(b, z, x, best, &none[..s], 0, first, &mut row[..s]);
+    pool::insert(pool::empty(), k, s, cost, &row[..s], 0, 0)
 }

@@ -152,12 +152,12 @@ module _ (ws : Words) (ok : bookNumber ws ≡ 0) (e : Entry) (ri : Right ws e) w
     child-is =
         by-place p (listsOf ws (childEntry ws e p)) child
         (λ s h. lists-before ws (childEntry ws e p) s h ∙ ap (λ (b : ℕ). b ∷ []) (front s h)
-            ∙ sym (split-lt (byteAt (firstOf ws (listsOf ws e))) p (without (byteAt (firstOf ws (listsOf ws e)) p) (listsOf ws e p)) (listsOf ws e) s h))
+        ∙ sym (split-lt (byteAt (firstOf ws (listsOf ws e))) p (without (byteAt (firstOf ws (listsOf ws e)) p) (listsOf ws e p)) (listsOf ws e) s h))
         (lists-here ws (childEntry ws e p) ∙ left-is p state from small
-            ∙ ap (λ (bs : Policy). without (byteAt bs p) (listsOf ws e p)) (ri .plan-is)
-            ∙ sym (split-eq (byteAt (firstOf ws (listsOf ws e))) p (without (byteAt (firstOf ws (listsOf ws e)) p) (listsOf ws e p)) (listsOf ws e)))
+        ∙ ap (λ (bs : Policy). without (byteAt bs p) (listsOf ws e p)) (ri .plan-is)
+        ∙ sym (split-eq (byteAt (firstOf ws (listsOf ws e))) p (without (byteAt (firstOf ws (listsOf ws e)) p) (listsOf ws e p)) (listsOf ws e)))
         (λ s h. lists-after ws (childEntry ws e p) s h ∙ sym (after s h)
-            ∙ sym (split-gt (byteAt (firstOf ws (listsOf ws e))) p (without (byteAt (firstOf ws (listsOf ws e)) p) (listsOf ws e p)) (listsOf ws e) s h))
+        ∙ sym (split-gt (byteAt (firstOf ws (listsOf ws e))) p (without (byteAt (firstOf ws (listsOf ws e)) p) (listsOf ws e p)) (listsOf ws e) s h))
 
     pub child-right : Right ws (childEntry ws e p)
     child-right =
@@ -232,7 +232,7 @@ module _ (ws : Words) (ok : bookNumber ws ≡ 0) (e : Entry) (ri : Right ws e) w
 
       go : Dec (p < e .split) → Both rest tail
           → Both (addIf (splitsAt e p) (left ws p (maskAt e p)) (childEntry ws e p) rest)
-            (addChild (isIn p reach) (without (f p) (listsOf ws e p)) (part (listsOf ws e) f p) tail)
+          (addChild (isIn p reach) (without (f p) (listsOf ws e p)) (part (listsOf ws e) f p) tail)
       go (yes l) ih =
           rw (lt-leb (e .split) p l, none-before p l) (ih .0 ∙ sym (add-none (isIn p reach) _), ih .1)
       go (no l) ih =
@@ -244,17 +244,18 @@ module _ (ws : Words) (ok : bookNumber ws ≡ 0) (e : Entry) (ri : Right ws e) w
         where
           more : p < stateCount ws → e .split ≤ p → (isIn p reach ≡ not (eqb g 255)) × (T (isIn p reach) → g < 8) → (b : Bool) → isIn p reach ≡ b
               → Both (addIf b (left ws p (maskAt e p)) (childEntry ws e p) rest)
-                (addChild b (without (f p) (listsOf ws e p)) (part (listsOf ws e) f p) tail)
+              (addChild b (without (f p) (listsOf ws e p)) (part (listsOf ws e) f p) tail)
           more state from k false q = ih
           more state from k true q =
               let t : T (isIn p reach) = true-T q in
               let small : f p < 8 = omega (arith, r .0, k .1 t) in
               let here = lift p (inl (refl, isIn-in p reach t)) in
               let ce : (c : ℕ) → In c (left ws p (maskAt e p)) → listsOf ws (childEntry ws e p) ≡ part (listsOf ws e) f p
-                  = λ c i. child-is p state from small here (c, i) ∙ ap (λ (bs : Policy). part (listsOf ws e) (byteAt bs) p) (sym (ri .plan-is)) in
-              ( add-same true (left ws p (maskAt e p)) (childEntry ws e p) rest (part (listsOf ws e) f p) tail (λ t c i. ce c i) (ih .0)
-                ∙ ap (λ (xs : List ℕ). addChild true xs (part (listsOf ws e) f p) tail) (left-is p state from small)
-              , add-right true (left ws p (maskAt e p)) (childEntry ws e p) rest (λ t c i. child-right p state from small here (c, i)) (ih .1))
+              = λ c i. child-is p state from small here (c, i) ∙ ap (λ (bs : Policy). part (listsOf ws e) (byteAt bs) p) (sym (ri .plan-is)) in (
+                add-same true (left ws p (maskAt e p)) (childEntry ws e p) rest (part (listsOf ws e) f p) tail (λ t c i. ce c i) (ih .0)
+                    ∙ ap (λ (xs : List ℕ). addChild true xs (part (listsOf ws e) f p) tail) (left-is p state from small),
+                add-right true (left ws p (maskAt e p)) (childEntry ws e p) rest (λ t c i. child-right p state from small here (c, i)) (ih .1),
+              )
 
   -- the stored children of e are right, and stand for the children of its lists
   pub children-are : map (listsOf ws) (childEntries ws e 0 (stateCount ws))

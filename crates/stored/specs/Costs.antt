@@ -86,6 +86,6 @@ module _ (ws : Words) (ok : bookNumber ws ≡ 0) (e : Entry) (ri : Right ws e) (
       (subst (Reaches (action ws) p 0 (0 ∷ [])) (ri .plan-is) reached)
       (some .0, subst (λ (bs : Policy). In (some .0) (without (byteAt bs p) (listsOf ws e p))) (ri .plan-is) (subst (In (some .0)) (left-is ws ok e ri p state from small) (some .1)))
       ∙ ap (λ (bs : Policy). costOf ws bs +ℤ pos (reachWeight (action ws) bs p)
-          *ℤ (row p (bestOf (row p) (without (byteAt bs p) (listsOf ws e p))) -ℤ row p (byteAt bs p))) (sym (ri .plan-is))
+      *ℤ (row p (bestOf (row p) (without (byteAt bs p) (listsOf ws e p))) -ℤ row p (byteAt bs p))) (sym (ri .plan-is))
       ∙ ap₂ (λ (z : ℤ) (xs : List ℕ). z +ℤ pos (reachWeight (action ws) (e .plan) p) *ℤ (row p (bestOf (row p) xs) -ℤ row p (byteAt (e .plan) p)))
-        (sym (ri .cost-is)) (sym (left-is ws ok e ri p state from small))
+      (sym (ri .cost-is)) (sym (left-is ws ok e ri p state from small))

@@ -59,7 +59,7 @@ module _ (ws : Words) (ok : bookNumber ws ≡ 0) where
   insert-map a (b ∷ bs) x h =
       step (earlierEntry a b) (insert earlierEntry a bs)
       ∙ ap₂ (λ (t : Bool) (r : List (ℕ → List ℕ)). elim t as (λ (_ : Bool). List (ℕ → List ℕ)) [ true ↦ listsOf ws a ∷ (listsOf ws b ∷ map (listsOf ws) bs) | false ↦ listsOf ws b ∷ r ])
-        (compare a b x (h .0)) (insert-map a bs x (h .1))
+      (compare a b x (h .0)) (insert-map a bs x (h .1))
     where
       step : (t : Bool) (r : List Entry) → map (listsOf ws) (elim t as (λ (_ : Bool). List Entry) [ true ↦ a ∷ (b ∷ bs) | false ↦ b ∷ r ])
           ≡ elim t as (λ (_ : Bool). List (ℕ → List ℕ)) [ true ↦ listsOf ws a ∷ (listsOf ws b ∷ map (listsOf ws) bs) | false ↦ listsOf ws b ∷ map (listsOf ws) r ]
@@ -91,11 +91,12 @@ module _ (ws : Words) (ok : bookNumber ws ≡ 0) where
   admit-map K [] es h k = (refl, k)
   admit-map K (c ∷ cs) es h k =
       let i = insert-right c es (h .0) k in
-      let r = admit-map K cs (take K (insert earlierEntry c es)) (h .1) (take-right K (insert earlierEntry c es) i) in
-      ( r .0
-        ∙ ap (λ (xs : List (ℕ → List ℕ)). admit lt (firstOf ws) K (map (listsOf ws) cs) xs)
-          (take-map K (insert earlierEntry c es) ∙ ap (take K) (insert-map c es (h .0) k))
-      , r .1)
+      let r = admit-map K cs (take K (insert earlierEntry c es)) (h .1) (take-right K (insert earlierEntry c es) i) in (
+        r .0
+            ∙ ap (λ (xs : List (ℕ → List ℕ)). admit lt (firstOf ws) K (map (listsOf ws) cs) xs)
+            (take-map K (insert earlierEntry c es) ∙ ap (take K) (insert-map c es (h .0) k)),
+        r .1,
+      )
 
   -- one search is the image of the other
   pub runs-are : (K n : ℕ) (es : List Entry) → Every (Right ws) es
@@ -105,12 +106,13 @@ module _ (ws : Words) (ok : bookNumber ws ≡ 0) where
   runs-are K (suc n) [] h = (refl, tt)
   runs-are K (suc n) (e ∷ es) h =
       let a = admit-map K (childrenOf ws e) es (children-right ws ok e (h .0)) (h .1) in
-      let r = runs-are K n (admit earlierEntry itself K (childrenOf ws e) es) (a .1) in
-      ( ap₂ (λ (x : Policy) (xs : List Policy). x ∷ xs) (h .0 .plan-is)
-        (r .0
-        ∙ ap (run lt (firstOf ws) (children (scale ws) (stateCount ws) (action ws) (togo ws)) K n)
-          (a .0 ∙ ap (λ (cs : List (ℕ → List ℕ)). admit lt (firstOf ws) K cs (map (listsOf ws) es)) (children-are ws ok e (h .0))))
-      , (h .0, r .1))
+      let r = runs-are K n (admit earlierEntry itself K (childrenOf ws e) es) (a .1) in (
+        ap₂ (λ (x : Policy) (xs : List Policy). x ∷ xs) (h .0 .plan-is)
+            (r .0
+            ∙ ap (run lt (firstOf ws) (children (scale ws) (stateCount ws) (action ws) (togo ws)) K n)
+            (a .0 ∙ ap (λ (cs : List (ℕ → List ℕ)). admit lt (firstOf ws) K cs (map (listsOf ws) es)) (children-are ws ok e (h .0)))),
+        (h .0, r .1),
+      )
 
   -- ---- from the first candidate on
 
@@ -144,7 +146,7 @@ module _ (ws : Words) (ok : bookNumber ws ≡ 0) where
       ∙ ap (λ (os : ℕ → List ℕ). run lt (firstOf ws) (children (scale ws) (stateCount ws) (action ws) (togo ws)) K K (os ∷ [])) start-lists
       ∙ the-best (scale ws) (stateCount ws) (action ws) (togo ws) (shape ws ok) (λ p. p < stateCount ws) (options ws) (lists ws ok) K
       ∙ sym (ap (take K) (sorted-same (before (policyCost ws)) lt (policies ws)
-        (λ x y i j. ap₂ (λ (u v : ℤ). ltZ u v || (not (ltZ v u) && lower x y)) (cost-same x i) (cost-same y j))))
+      (λ x y i j. ap₂ (λ (u v : ℤ). ltZ u v || (not (ltZ v u) && lower x y)) (cost-same x i) (cost-same y j))))
 
   pub lists-costs : (K : ℕ) → map costIn (runEntries ws K K (startEntry ∷ [])) ≡ rankingCosts ws K
   unfolding rankingCosts

@@ -40,10 +40,11 @@ element-copy-out-moved-3 c = search needs
 moved-requires : tie.Need-moved-requires
 moved-requires c κs =
     let s = c .before .before .before in
-    simp
-    ( toZ-ofZ (s .fits .cost)
-    , read64 (rowOf (s .args .q .now) (s .args .p) (s .args .c)) (c .before .moved-arg2 .given)
-    , read64 (rowOf (s .args .q .now) (s .args .p) (s .args .f)) (c .moved-arg3 .given))
+    simp (
+      toZ-ofZ (s .fits .cost),
+      read64 (rowOf (s .args .q .now) (s .args .p) (s .args .c)) (c .before .moved-arg2 .given),
+      read64 (rowOf (s .args .q .now) (s .args .p) (s .args .f)) (c .moved-arg3 .given),
+    )
     (s .pre .3)
 
 returns : tie.Need-returns
@@ -51,10 +52,11 @@ returns c =
     let d = c .before in
     let s = d .before .before .before in
     rw (read64 (c .moved .result) (c .moved .ok))
-    (simp
-    ( toZ-ofZ (s .fits .cost)
-    , read64 (rowOf (s .args .q .now) (s .args .p) (s .args .c)) (d .before .moved-arg2 .given)
-    , read64 (rowOf (s .args .q .now) (s .args .p) (s .args .f)) (d .moved-arg3 .given))
+    (simp (
+      toZ-ofZ (s .fits .cost),
+      read64 (rowOf (s .args .q .now) (s .args .p) (s .args .c)) (d .before .moved-arg2 .given),
+      read64 (rowOf (s .args .q .now) (s .args .p) (s .args .f)) (d .moved-arg3 .given),
+    )
     at (c .moved .ensures))
 
 pub child-cost-spec : {M : Type 1} → statement M

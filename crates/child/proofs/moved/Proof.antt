@@ -39,14 +39,15 @@ add-result c =
 
 returns : tie.Need-returns
 returns c =
-    simp
-    ( weight c
-    , toZ-ofZ (c .fits .cost)
-    , toZ-ofZ (c .fits .new)
-    , toZ-ofZ (c .fits .old)
-    , toZ-ofZ (difference c)
-    , toZ-ofZ (product c)
-    , toZ-ofZ (result c))
+    simp (
+      weight c,
+      toZ-ofZ (c .fits .cost),
+      toZ-ofZ (c .fits .new),
+      toZ-ofZ (c .fits .old),
+      toZ-ofZ (difference c),
+      toZ-ofZ (product c),
+      toZ-ofZ (result c),
+    )
 
 pub moved-spec : {M : Type 1} → statement M
 moved-spec = tie.close (tie.spec cast-result sub-result mul-result add-result returns)

@@ -59,7 +59,7 @@ module _ {o : List ℕ} (s : tie.Start) (rest : List ℕ) (e : o ≡ walk s) whe
 -- the cost that is passed on is the child's
 money : (s : tie.Start) (r : ℤ)
     → r ≡ toZ w64 (ofZ w64 (s .args .e .cost)) +ℤ pos (getD (s .args .w .now) (s .args .p) 0)
-        *ℤ (rowOf (s .args .q .now) (s .args .p) (s .args .c) -ℤ rowOf (s .args .q .now) (s .args .p) (getD (s .args .plan .now) (s .args .p) 0))
+    *ℤ (rowOf (s .args .q .now) (s .args .p) (s .args .c) -ℤ rowOf (s .args .q .now) (s .args .p) (getD (s .args .plan .now) (s .args .p) 0))
     → toZ w64 (ofZ w64 r) ≡ childEntry (ws s) (en s) (s .args .p) .cost
 money s r h =
     let k = known s in
@@ -94,9 +94,16 @@ slice-aggregate-build c =
 build-requires : tie.Need-build-requires
 build-requires c κs =
     let s = c .before .before .before .before .before .before in
-    let h = s .pre in
-    (h .0 .ok, h .0 .sizes, h .0 .index, h .0 .firsts, usable (ws s) (h .0 .ok) (en s) (h .1 .right) (s .args .p) (h .2 .state), h .2 .state, known s .c-action
-    , row-long (c .before .zeros .result) (c .before .zeros .ensures) s ∙ h .0 .sizes .s-is)
+    let h = s .pre in (
+      h .0 .ok,
+      h .0 .sizes,
+      h .0 .index,
+      h .0 .firsts,
+      usable (ws s) (h .0 .ok) (en s) (h .1 .right) (s .args .p) (h .2 .state),
+      h .2 .state,
+      known s .c-action,
+      row-long (c .before .zeros .result) (c .before .zeros .ensures) s ∙ h .0 .sizes .s-is,
+    )
 
 array-share-prefix-row : tie.Need-array-share-prefix-row
 array-share-prefix-row c =
@@ -111,23 +118,25 @@ slice-aggregate-insert c =
 insert-requires : tie.Need-insert-requires
 insert-requires c κs =
     let s = c .before .before .before .before .before .before .before .before .before in
-    let w = s .pre .3 in
-    ( w .formed
-    , omega (arith, s .pre .0 .sizes .s-is, s .pre .2 .state)
-    , few s
-    , w .k-low
-    , w .k-high
-    , w .few
-    , front-long s (drop (s .args .z .s) (c .before .before .before .before .zeros .result)) (c .before .before .build .ensures))
+    let w = s .pre .3 in (
+      w .formed,
+      omega (arith, s .pre .0 .sizes .s-is, s .pre .2 .state),
+      few s,
+      w .k-low,
+      w .k-high,
+      w .few,
+      front-long s (drop (s .args .z .s) (c .before .before .before .before .zeros .result)) (c .before .before .build .ensures),
+    )
 
 returns : tie.Need-returns
 returns c =
     let s = c .before .before .before .before .before .before .before .before .before .before in
-    let i = c .insert .ensures in
-    ( record { k-low = s .pre .3 .k-low; k-high = s .pre .3 .k-high; formed = i .formed; few = i .count-high }
-    , added (stateCount (ws s)) (childEntry (ws s) (en s) (s .args .p)) (s .pre .0 .sizes .s-is)
-      (money s _ (c .before .before .before .before .before .before .child-cost .ensures))
-      (front s (drop (s .args .z .s) (c .before .before .before .before .before .zeros .result)) (c .before .before .before .build .ensures)) refl (s .pre .2 .mask-is) i)
+    let i = c .insert .ensures in (
+      record { k-low = s .pre .3 .k-low; k-high = s .pre .3 .k-high; formed = i .formed; few = i .count-high },
+      added (stateCount (ws s)) (childEntry (ws s) (en s) (s .args .p)) (s .pre .0 .sizes .s-is)
+          (money s _ (c .before .before .before .before .before .before .child-cost .ensures))
+          (front s (drop (s .args .z .s) (c .before .before .before .before .before .zeros .result)) (c .before .before .before .build .ensures)) refl (s .pre .2 .mask-is) i,
+    )
 
 pub add-child-spec : {M : Type 1} → statement M
 add-child-spec =

@@ -71,9 +71,13 @@ part-first-plan-end c = room (c .before .before)
 
 first-plan-requires : tie.Need-first-plan-requires
 first-plan-requires c κs =
-    let s = c .before .before .before in
-    (s .pre .1 .formed, s .pre .2, omega (arith, s .pre .0 .sizes .s-is, shape (ws s) (s .pre .0 .ok) .some-state), few s
-    , part-long (s .args .plans .now) (s .args .j * s .args .z .s) (s .args .z .s) (stateCount (ws s)) (s .pre .0 .sizes .s-is) (room s))
+    let s = c .before .before .before in (
+      s .pre .1 .formed,
+      s .pre .2,
+      omega (arith, s .pre .0 .sizes .s-is, shape (ws s) (s .pre .0 .ok) .some-state),
+      few s,
+      part-long (s .args .plans .now) (s .args .j * s .args .z .s) (s .args .z .s) (stateCount (ws s)) (s .pre .0 .sizes .s-is) (room s),
+    )
 
 sub-split-first : tie.Need-sub-split-first
 sub-split-first c = search needs
@@ -101,12 +105,13 @@ same-length-2 c =
 
 returns : tie.Need-returns
 returns c =
-    let s = c .before .before .before .before .before .before .before .before .before in
-    ( c .split-first .ensures .0
-    , c .split-first .ensures .1
-    , ap (set (s .args .costs .now) (s .args .j))
-      (cost-read (ws s) (s .args .z) (s .args .x .now) (s .args .q .now) (s .args .best .now) (s .pre .0) (first s) (s .pre .3) (c .before .before .before .before .before .before .before .first-cost .ensures (stateCount (ws s))))
-    , put-is (s .args .plans .now) (s .args .j * s .args .z .s) (s .args .z .s) (stateCount (ws s)) (s .pre .0 .sizes .s-is) (room s) (first s .plan) (c .before .before .before .before .before .first-plan .ensures ∙ row-same s) (long s) ∙ ap (λ (n : ℕ). written (s .args .plans .now) (s .args .j * n) (stateCount (ws s)) (first s .plan)) (s .pre .0 .sizes .s-is))
+    let s = c .before .before .before .before .before .before .before .before .before in (
+      c .split-first .ensures .0,
+      c .split-first .ensures .1,
+      ap (set (s .args .costs .now) (s .args .j))
+          (cost-read (ws s) (s .args .z) (s .args .x .now) (s .args .q .now) (s .args .best .now) (s .pre .0) (first s) (s .pre .3) (c .before .before .before .before .before .before .before .first-cost .ensures (stateCount (ws s)))),
+      put-is (s .args .plans .now) (s .args .j * s .args .z .s) (s .args .z .s) (stateCount (ws s)) (s .pre .0 .sizes .s-is) (room s) (first s .plan) (c .before .before .before .before .before .first-plan .ensures ∙ row-same s) (long s) ∙ ap (λ (n : ℕ). written (s .args .plans .now) (s .args .j * n) (stateCount (ws s)) (first s .plan)) (s .pre .0 .sizes .s-is),
+    )
 
 pub list-one-spec : {M : Type 1} → statement M
 list-one-spec =

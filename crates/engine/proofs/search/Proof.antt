@@ -1,17 +1,14 @@
 -- Until k are listed or none waits, one policy more is listed.
 -- Assumes nothing.
-use mathlib.Core.Path.{_≡_, sym, ap, _∙_, subst}
-use mathlib.Core.List.{List, _∷_}
-use Prim.Native.Nat.{ℕ, _+_, _*_, _-_, _≤_}
+use mathlib.Core.List.{List}
+use Prim.Native.Nat.{_+_, _-_, _≤_}
 use native.Mathlib.Nat.{mul-le-mul-right}
 use native.Mathlib.Omega.{arith}
-use lib.ListN.{length}
 use Rattle.model.specs.Model.{Words, stateCount}
 use Rattle.stored.specs.Entry.{Entry}
-use Rattle.pool.specs.Entries.{firstEntry, entries}
+use Rattle.pool.specs.Entries.{entries}
 use Rattle.engine.specs.Engine.{Waiting}
-use Rattle.engine.proofs.Listing.{pool-first, pool-empty, Listing, begin, finish, done, none-waits, first-right, pool-next}
-use borrow.Author.Needs.{needs}
+use Rattle.engine.proofs.Listing.{pool-empty, Listing, begin, finish, done, none-waits, first-right, pool-next}
 use Rattle.engine.proofs.search.Statement.{statement}
 use Rattle.engine.proofs.search.Tie as tie
 
@@ -52,10 +49,15 @@ list-one-requires c κs =
     let l = c .before .before .before .before .before .loop in
     let i = l .inv in
     let some : 1 ≤ l .pool .count = omega arith in
-    let more : l .j + 1 ≤ s .args .k = omega arith in
-    (s .pre .0, i .0, some, first-right (ws s) (s .pre .0 .ok) (s .args .k) (start s) (s .args .costs .now) (s .args .plans .now) (l .j) (l .pool) (l .costs) (l .plans) (i .2) (i .0 .formed) some, omega arith
-    , omega (arith, i .2 .costs-long, s .pre .3)
-    , omega (arith, i .2 .plans-long′, s .pre .4, mul-le-mul-right (stateCount (ws s)) more))
+    let more : l .j + 1 ≤ s .args .k = omega arith in (
+      s .pre .0,
+      i .0,
+      some,
+      first-right (ws s) (s .pre .0 .ok) (s .args .k) (start s) (s .args .costs .now) (s .args .plans .now) (l .j) (l .pool) (l .costs) (l .plans) (i .2) (i .0 .formed) some,
+      omega arith,
+      omega (arith, i .2 .costs-long, s .pre .3),
+      omega (arith, i .2 .plans-long′, s .pre .4, mul-le-mul-right (stateCount (ws s)) more),
+    )
 
 add-j : tie.Need-add-j Inv-loop μ-loop
 add-j c = omega (arith, c .before .before .before .before .before .before .before .before .before .before .before .pre .1 .k-high)
@@ -69,10 +71,11 @@ loop-again c =
     let l = c .before .before .before .before .before .before .before .before .before .loop in
     let i = l .inv in
     let o = c .before .before .before .list-one .ensures in
-    let some : 1 ≤ l .pool .count = omega arith in
-    ( o .0
-    , omega arith
-    , pool-next (ws s) (s .pre .0 .ok) (s .args .k) (start s) (s .args .costs .now) (s .args .plans .now) (l .j) (l .pool) (l .costs) (l .plans) (i .2) (i .0 .formed) some (c .before .before .before .list-one .result) (omega arith) (s .pre .3) (s .pre .4) (o .1) (o .2) (o .3))
+    let some : 1 ≤ l .pool .count = omega arith in (
+      o .0,
+      omega arith,
+      pool-next (ws s) (s .pre .0 .ok) (s .args .k) (start s) (s .args .costs .now) (s .args .plans .now) (l .j) (l .pool) (l .costs) (l .plans) (i .2) (i .0 .formed) some (c .before .before .before .list-one .result) (omega arith) (s .pre .3) (s .pre .4) (o .1) (o .2) (o .3),
+    )
 
 same-length-3 : tie.Need-same-length-3 Inv-loop μ-loop
 same-length-3 c = c .before .loop .inv .2 .costs-long

@@ -21,9 +21,12 @@ abbrev μ-loop : tie.MeasureT-loop
 
 loop-holds : tie.Need-loop-holds Inv-loop μ-loop
 loop-holds c =
-    let s = c .before in
-    (s .pre .2, omega arith, s .pre .0 .sizes .s-is
-    , from-split (s .args .b .now) (entryOf (s .args .e) (s .args .plan .now)) (s .args .k) (s .args .z .s) (entries (stateCount (s .args .b .now)) (s .args .start)))
+    let s = c .before in (
+      s .pre .2,
+      omega arith,
+      s .pre .0 .sizes .s-is,
+      from-split (s .args .b .now) (entryOf (s .args .e) (s .args .plan .now)) (s .args .k) (s .args .z .s) (entries (stateCount (s .args .b .now)) (s .args .start)),
+    )
 
 split-state-requires : tie.Need-split-state-requires Inv-loop μ-loop
 split-state-requires c κs =
@@ -46,20 +49,24 @@ loop-again c =
     let ws = s .args .b .now in
     let en = entryOf (s .args .e) (s .args .plan .now) in
     let n = s .args .z .s in
-    let p = c .before .before .loop .p in
-    (c .split-state .ensures .0, omega (arith, i .1), i .2
-    , ap (admittedFrom ws (s .args .k) en (p + 1) (n - (p + 1))) (c .split-state .ensures .1)
-      ∙ sym (state-more ws en (s .args .k) p n (entries (stateCount ws) (c .before .before .loop .pool)) (omega arith)) ∙ i .3)
+    let p = c .before .before .loop .p in (
+      c .split-state .ensures .0,
+      omega (arith, i .1),
+      i .2,
+      ap (admittedFrom ws (s .args .k) en (p + 1) (n - (p + 1))) (c .split-state .ensures .1)
+          ∙ sym (state-more ws en (s .args .k) p n (entries (stateCount ws) (c .before .before .loop .pool)) (omega arith)) ∙ i .3,
+    )
 
 returns : tie.Need-returns Inv-loop μ-loop
 returns c =
     let s = c .before .before .before in
     let i = c .before .loop .inv in
     let ws = s .args .b .now in
-    let en = entryOf (s .args .e) (s .args .plan .now) in
-    ( i .0
-    , sym (states-end ws en (s .args .k) (c .before .loop .p) (s .args .z .s) (entries (stateCount ws) (c .before .loop .pool)) (omega arith)) ∙ i .3
-      ∙ ap (λ (n : ℕ). admittedFrom ws (s .args .k) en 0 n (entries (stateCount ws) (s .args .start))) (i .2))
+    let en = entryOf (s .args .e) (s .args .plan .now) in (
+      i .0,
+      sym (states-end ws en (s .args .k) (c .before .loop .p) (s .args .z .s) (entries (stateCount ws) (c .before .loop .pool)) (omega arith)) ∙ i .3
+          ∙ ap (λ (n : ℕ). admittedFrom ws (s .args .k) en 0 n (entries (stateCount ws) (s .args .start))) (i .2),
+    )
 
 pub split-all-spec : {M : Type 1} → statement M
 split-all-spec =

@@ -14,7 +14,6 @@ use Rattle.stored.specs.Children.{Right, plan-model}
 use Rattle.pool.specs.Entries.{entries, firstEntry}
 use Rattle.engine.specs.Engine.{entryOf, admittedFrom, splitPool}
 use Rattle.engine.proofs.First.{entry-is}
-use borrow.Author.Needs.{needs}
 use Rattle.engine.proofs.split_first.Statement.{statement}
 use Rattle.engine.proofs.split_first.Tie as tie
 
@@ -47,9 +46,12 @@ pop-requires c κs =
 reach-weights-requires : tie.Need-reach-weights-requires
 reach-weights-requires c κs =
     let s = c .before .before .before .before .before in
-    let h = s .pre in
-    (h .0 .ok, h .0 .sizes, h .0 .index
-    , subst (λ (bs : List ℕ). isPolicy (ws s) bs ≡ true) (sym (h .4)) (plan-model (ws s) (h .0 .ok) (first s) (h .3)))
+    let h = s .pre in (
+      h .0 .ok,
+      h .0 .sizes,
+      h .0 .index,
+      subst (λ (bs : List ℕ). isPolicy (ws s) bs ≡ true) (sym (h .4)) (plan-model (ws s) (h .0 .ok) (first s) (h .3)),
+    )
 
 -- what is read of the first candidate is that candidate
 parent-is : (c : tie.After-reach-weights) → let s = c .before .before .before .before .before .before in
@@ -64,19 +66,21 @@ parent-is c =
 split-all-requires : tie.Need-split-all-requires
 split-all-requires c κs =
     let s = c .before .before .before .before .before .before .before in
-    let o = c .before .before .pop .ensures in
-    ( s .pre .0
-    , record { right = subst (Right (ws s)) (sym (parent-is (c .before))) (s .pre .3); weights = c .before .reach-weights .ensures }
-    , record { k-low = s .pre .1 .k-low; k-high = s .pre .1 .k-high; formed = o .formed; few = omega (arith, o .count-is, s .pre .1 .few) })
+    let o = c .before .before .pop .ensures in (
+      s .pre .0,
+      record { right = subst (Right (ws s)) (sym (parent-is (c .before))) (s .pre .3); weights = c .before .reach-weights .ensures },
+      record { k-low = s .pre .1 .k-low; k-high = s .pre .1 .k-high; formed = o .formed; few = omega (arith, o .count-is, s .pre .1 .few) },
+    )
 
 returns : tie.Need-returns
 returns c =
     let s = c .before .before .before .before .before .before .before .before in
-    let n = stateCount (ws s) in
-    ( c .split-all .ensures .0
-    , c .split-all .ensures .1
-      ∙ ap (λ (e : Entry). admittedFrom (ws s) (s .args .k) e 0 n (entries n (c .before .before .before .pop .result))) (parent-is (c .before .before))
-      ∙ sym (ap (splitPool (ws s) (s .args .k)) (c .before .before .before .pop .ensures .rest n)))
+    let n = stateCount (ws s) in (
+      c .split-all .ensures .0,
+      c .split-all .ensures .1
+          ∙ ap (λ (e : Entry). admittedFrom (ws s) (s .args .k) e 0 n (entries n (c .before .before .before .pop .result))) (parent-is (c .before .before))
+          ∙ sym (ap (splitPool (ws s) (s .args .k)) (c .before .before .before .pop .ensures .rest n)),
+    )
 
 pub split-first-spec : {M : Type 1} → statement M
 split-first-spec =

@@ -56,17 +56,20 @@ returns-2 c =
 
 add-child-requires : tie.Need-add-child-requires
 add-child-requires c κs =
-    let s = c .before .before .before .before .before .before .before in
-    (s .pre .0, s .pre .1
-    , child-at (ws s) (s .args .z) (s .args .x .now) (s .args .q .now) (s .args .best .now) (s .pre .0) (en s) (s .pre .1 .right) (s .args .p) (s .pre .2) (s .pre .3) (s .args .k) (waiting s) (c .before .before .before .before .if1 .left) _ _ _ (c .before .before .before .mask-at .ensures) (c .before .before .count .ensures) (c .before .best-action .ensures) (c .if2 .left)
-    , s .pre .4)
+    let s = c .before .before .before .before .before .before .before in (
+      s .pre .0,
+      s .pre .1,
+      child-at (ws s) (s .args .z) (s .args .x .now) (s .args .q .now) (s .args .best .now) (s .pre .0) (en s) (s .pre .1 .right) (s .args .p) (s .pre .2) (s .pre .3) (s .args .k) (waiting s) (c .before .before .before .before .if1 .left) _ _ _ (c .before .before .before .mask-at .ensures) (c .before .before .count .ensures) (c .before .best-action .ensures) (c .if2 .left),
+      s .pre .4,
+    )
 
 returns-3 : tie.Need-returns-3
 returns-3 c =
-    let s = c .before .before .before .before .before .before .before .before in
-    ( c .add-child .ensures .0
-    , c .add-child .ensures .1
-      ∙ one (ws s) (s .args .z) (s .args .x .now) (s .args .q .now) (s .args .best .now) (s .pre .0) (en s) (s .pre .1 .right) (s .args .p) (s .pre .2) (s .pre .3) (s .args .k) (waiting s) (c .before .before .before .before .before .if1 .left) _ _ _ (c .before .before .before .before .mask-at .ensures) (c .before .before .before .count .ensures) (c .before .before .best-action .ensures) (c .before .if2 .left))
+    let s = c .before .before .before .before .before .before .before .before in (
+      c .add-child .ensures .0,
+      c .add-child .ensures .1
+          ∙ one (ws s) (s .args .z) (s .args .x .now) (s .args .q .now) (s .args .best .now) (s .pre .0) (en s) (s .pre .1 .right) (s .args .p) (s .pre .2) (s .pre .3) (s .args .k) (waiting s) (c .before .before .before .before .before .if1 .left) _ _ _ (c .before .before .before .before .mask-at .ensures) (c .before .before .before .count .ensures) (c .before .before .best-action .ensures) (c .before .if2 .left),
+    )
 
 pub split-state-spec : {M : Type 1} → statement M
 split-state-spec =

@@ -1,0 +1,127 @@
+-- The first best actions make the first policy, and it waits alone.
+-- Assumes nothing.
+use mathlib.Core.Path.{_≡_, refl, sym, _∙_, subst}
+use mathlib.Core.List.{List}
+use Prim.Native.Nat.{ℕ, _≤_, _<_}
+use native.Mathlib.Omega.{arith}
+use lib.ListN.{length, getD, take, drop}
+use lib.Seq.{length-take-le}
+use Rattle.model.specs.Model.{Words, stateCount, actionCount}
+use Rattle.accepted.specs.Facts.{accepted}
+use Rattle.accepted.specs.Shape.{shape}
+use Rattle.accepted.specs.Demands.{bestPolicy}
+use Rattle.costs.proofs.Sums.{read64}
+use Rattle.build.specs.Best.{bestAt}
+use Rattle.build.proofs.Best.{best-at-below}
+use Rattle.engine.specs.Engine.{firstCandidate}
+use Rattle.engine.proofs.Child.{added}
+use Rattle.engine.proofs.Parts.{grown, front, front-long}
+use Rattle.engine.proofs.Start.{first-walk, best-long, none-counted, alone}
+use borrow.Author.Needs.{needs}
+use Rattle.engine.proofs.first_pool.Statement.{statement}
+use Rattle.engine.proofs.first_pool.Tie as tie
+
+abbrev ws : tie.Start → Words
+ws s = s .args .b .now
+
+few : (s : tie.Start) → s .args .z .s ≤ 64
+few s = omega (arith, s .pre .1 .s-is, accepted (ws s) (s .pre .0) .sizes .s-high)
+
+row-long : (row : List ℕ) → length row ≡ 64 → (s : tie.Start) → length (take (s .args .z .s) row) ≡ s .args .z .s
+row-long row h s = length-take-le (s .args .z .s) row (omega (arith, few s))
+
+best-first : (s : tie.Start) → getD (s .args .best .now) 0 0 ≡ bestAt (ws s) 0
+best-first s = s .pre .3 .best-is 0 (shape (ws s) (s .pre .0) .some-state)
+
+long : (s : tie.Start) → length (bestPolicy (ws s)) ≡ s .args .z .s
+long s = best-long (ws s) (s .pre .0) ∙ sym (s .pre .1 .s-is)
+
+element-copy-out-first : tie.Need-element-copy-out-first
+element-copy-out-first c = search needs
+
+zeros-requires : tie.Need-zeros-requires
+zeros-requires c κs = tt
+
+zeros-requires-2 : tie.Need-zeros-requires-2
+zeros-requires-2 c κs = tt
+
+array-share-prefix-none : tie.Need-array-share-prefix-none
+array-share-prefix-none c = omega (arith, few (c .before .before .before), c .before .zeros .ensures)
+
+slice-aggregate-build : tie.Need-slice-aggregate-build
+slice-aggregate-build c = sym (row-long (c .before .before .zeros .result) (c .before .before .zeros .ensures) (c .before .before .before .before))
+
+array-borrow-prefix-row : tie.Need-array-borrow-prefix-row
+array-borrow-prefix-row c = omega (arith, few (c .before .before .before .before), c .before .zeros2 .ensures)
+
+slice-aggregate-build-2 : tie.Need-slice-aggregate-build-2
+slice-aggregate-build-2 c = sym (row-long (c .before .before .zeros2 .result) (c .before .before .zeros2 .ensures) (c .before .before .before .before .before))
+
+build-requires : tie.Need-build-requires
+build-requires c κs =
+    let s = c .before .before .before .before .before in
+    let h = s .pre in (
+      h .0,
+      h .1,
+      h .2,
+      h .3,
+      (λ i l. absurd (omega arith)),
+      shape (ws s) (h .0) .some-state,
+      subst (λ (n : ℕ). n < actionCount (ws s) 0) (sym (best-first s)) (best-at-below (ws s) 0 (h .0) (shape (ws s) (h .0) .some-state)),
+      row-long (c .before .before .zeros2 .result) (c .before .before .zeros2 .ensures) s ∙ h .1 .s-is,
+    )
+
+empty-requires : tie.Need-empty-requires
+empty-requires c κs = tt
+
+array-share-prefix-row : tie.Need-array-share-prefix-row
+array-share-prefix-row c =
+    let s = c .before .before .before .before .before .before .before .before in
+    grown (s .args .z .s) (drop (s .args .z .s) (c .before .before .before .before .before .zeros2 .result)) (bestPolicy (ws s)) (c .before .before .build .ensures ∙ first-walk (ws s) (s .pre .0) (take (s .args .z .s) (c .before .before .before .before .before .before .zeros .result)) _ (best-first s)) (long s)
+
+slice-aggregate-insert : tie.Need-slice-aggregate-insert
+slice-aggregate-insert c =
+    let s = c .before .before .before .before .before .before .before .before .before in
+    sym (front-long (s .args .z .s) (drop (s .args .z .s) (c .before .before .before .before .before .before .zeros2 .result)) (bestPolicy (ws s)) (c .before .before .before .build .ensures ∙ first-walk (ws s) (s .pre .0) (take (s .args .z .s) (c .before .before .before .before .before .before .before .zeros .result)) _ (best-first s)) (long s))
+
+insert-requires : tie.Need-insert-requires
+insert-requires c κs =
+    let s = c .before .before .before .before .before .before .before .before .before in
+    let e = c .before .empty .ensures in (
+      e .0,
+      omega (arith, s .pre .1 .s-is, shape (ws s) (s .pre .0) .some-state),
+      few s,
+      s .pre .5,
+      s .pre .6,
+      omega (arith, none-counted (stateCount (ws s)) _ (e .0) (e .1 (stateCount (ws s)))),
+      front-long (s .args .z .s) (drop (s .args .z .s) (c .before .before .before .before .before .before .zeros2 .result)) (bestPolicy (ws s)) (c .before .before .before .build .ensures ∙ first-walk (ws s) (s .pre .0) (take (s .args .z .s) (c .before .before .before .before .before .before .before .zeros .result)) _ (best-first s)) (long s),
+    )
+
+returns : tie.Need-returns
+returns c =
+    let s = c .before .before .before .before .before .before .before .before .before .before in
+    let i = c .insert .ensures in
+    let e = c .before .before .empty .ensures in (
+      record { k-low = s .pre .5; k-high = s .pre .6; formed = i .formed; few = i .count-high },
+      added (stateCount (ws s)) (firstCandidate (ws s)) (s .pre .1 .s-is) (read64 (s .args .cost) (s .fits .cost .sfits) ∙ s .pre .4)
+          (front (s .args .z .s) (drop (s .args .z .s) (c .before .before .before .before .before .before .before .zeros2 .result)) (bestPolicy (ws s)) (c .before .before .before .before .build .ensures ∙ first-walk (ws s) (s .pre .0) (take (s .args .z .s) (c .before .before .before .before .before .before .before .before .zeros .result)) _ (best-first s)) (long s)) refl refl i
+          ∙ alone (s .args .k) (firstCandidate (ws s)) _ (s .pre .5) (e .1 (stateCount (ws s))),
+    )
+
+pub first-pool-spec : {M : Type 1} → statement M
+first-pool-spec =
+    tie.close
+    (tie.spec
+    element-copy-out-first
+    zeros-requires
+    zeros-requires-2
+    array-share-prefix-none
+    slice-aggregate-build
+    array-borrow-prefix-row
+    slice-aggregate-build-2
+    build-requires
+    empty-requires
+    array-share-prefix-row
+    slice-aggregate-insert
+    insert-requires
+    returns)
