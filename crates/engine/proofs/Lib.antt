@@ -5,3 +5,4 @@ pub mod States
 pub mod First
 pub mod Parts
 pub mod Listing
+pub mod Ranking

@@ -8,6 +8,7 @@ use lib.ListN.{length, take}
 use Rattle.model.specs.Lists.{insert, forEach}
 use Rattle.model.specs.Path.{byteAt}
 use Rattle.model.specs.Recursion.{bestOf, through}
+use Rattle.model.specs.Order.{ranking, rankingCosts}
 use Rattle.model.specs.Calls.{over}
 use Rattle.accepted.specs.Demands.{bestPolicy}
 use Rattle.laws.specs.Members.{In}
@@ -90,3 +91,9 @@ pub record Found (l : List Entry) (n : ℕ) (costs costs′ : List ℤ) (plans p
 -- all policies, of which the first takes the first best action at each state
 abbrev pub firstCandidate : Words → Entry
 firstCandidate ws = record { cost = costOf ws (bestPolicy ws); plan = bestPolicy ws; split = 0; mask = 0 }
+
+-- the list for a model and k stands at the front of the two slices, and the rest of both is as before
+pub record Ranked (ws : Words) (k n : ℕ) (costs costs′ : List ℤ) (plans plans′ : List ℕ) : Type 0 where
+  pub count : n ≡ length (ranking ws k)
+  pub costs-are : costs′ ≡ over (rankingCosts ws k) costs
+  pub plans-are : plans′ ≡ over (forEach (λ (bs : Policy). bs) (ranking ws k)) plans

@@ -12,7 +12,7 @@ ghost use Rattle.model.specs.Questions.{bookNumber};
 ghost use Rattle.book.specs.Read.{SizesAre};
 ghost use Rattle.index.specs.Index.{IndexOf};
 ghost use Rattle.build.specs.Best.{BestOf};
-ghost use Rattle.engine.specs.Engine.{Ready, Parenting, Waiting, ChildAt, entryOf, joined, admitted, admittedFrom, splitPool, Found, firstCandidate};
+ghost use Rattle.engine.specs.Engine.{Ready, Parenting, Waiting, ChildAt, entryOf, joined, admitted, admittedFrom, splitPool, Found, firstCandidate, Ranked};
 ghost use Rattle.laws.specs.Members.{Every};
 ghost use Rattle.pool.specs.Entries.{entries, firstEntry};
 ghost use Rattle.stored.specs.Children.{Right};
@@ -211,4 +211,17 @@ fn first_pool(
     let mut row = zeros();
     build::build(b, z, x, best, &none[..s], 0, first, &mut row[..s]);
     pool::insert(pool::empty(), k, s, cost, &row[..s], 0, 0)
+}
+
+// The first k policies of a checked book and their costs, at the front of the lent slices; gives how many there are.
+pub fn list(b: &[i32], k: usize, costs: &mut [i64], plans: &mut [u8]) -> usize
+    requires { ⌜ (bookNumber (now b) ≡ 0) × (1 ≤ k) × (k ≤ 64) × (k ≤ length (now costs)) × (k * stateCount (now b) ≤ length (now plans)) ⌝ }
+    ensures { λ r. ⌜ Ranked (now (b .entry)) k r (now (costs .entry)) (now (costs .exit)) (now (plans .entry)) (now (plans .exit)) ⌝ }
+{
+    let z = book::read_sizes(b);
+    let x = index::index(b, z);
+    let t = table::make_table(b, z, &x);
+    let best = build::best_actions(b, z, &t.q);
+    let start = first_pool(b, z, &x, &best, t.v[0], k);
+    search(b, z, &x, &t.q, &best, k, start, costs, plans)
 }

@@ -117,7 +117,7 @@ module _ (ws : Words) (ok : bookNumber ws ≡ 0) where
   -- ---- from the first candidate on
 
   -- all policies of the model, with the first of them
-  pub startEntry : Entry
+  unfoldable pub startEntry : Entry
   startEntry = record { cost = costOf ws (bestPolicy ws); plan = bestPolicy ws; split = 0; mask = 0 }
 
   start-lists : listsOf ws startEntry ≡ options ws
