@@ -24,18 +24,25 @@ element-copy-out-first-pool c = search needs
 
 first-pool-requires : tie.Need-first-pool-requires
 first-pool-requires c κs =
-    let s = c .before .before .before .before .before .before .before .before .before .before .before in
-    (s .pre .0, c .before .before .before .before .before .before .before .before .before .read-sizes .ensures, c .before .before .before .before .before .before .before .before .index .ensures, c .before .before .before .best-actions .ensures
-    , cost-first (s .args .b .now) (s .pre .0) _ _ (c .before .before .before .before .before .before .make-table .ensures), s .pre .1, s .pre .2)
+    let s = c .before .before .before .before .before .before .before .before .before .before .before in (
+      s .pre .0,
+      c .before .before .before .before .before .before .before .before .before .read-sizes .ensures,
+      c .before .before .before .before .before .before .before .before .index .ensures,
+      c .before .before .before .best-actions .ensures,
+      cost-first (s .args .b .now) (s .pre .0) _ _ (c .before .before .before .before .before .before .make-table .ensures),
+      s .pre .1,
+      s .pre .2,
+    )
 
 search-requires : tie.Need-search-requires
 search-requires c κs =
-    let s = c .before .before .before .before .before .before .before .before .before .before .before .before .before .before .before .before .before .before in
-    ( record { ok = s .pre .0; sizes = c .before .before .before .before .before .before .before .before .before .before .before .before .before .before .before .before .read-sizes .ensures; index = c .before .before .before .before .before .before .before .before .before .before .before .before .before .before .before .index .ensures; rows = table-rows _ _ _ (c .before .before .before .before .before .before .before .before .before .before .before .before .before .make-table .ensures); firsts = c .before .before .before .before .before .before .before .before .before .before .best-actions .ensures }
-    , c .before .before .before .before .before .before .first-pool .ensures .0
-    , first-rights (s .args .b .now) (s .pre .0) _ (c .before .before .before .before .before .before .first-pool .ensures .1)
-    , s .pre .3
-    , s .pre .4)
+    let s = c .before .before .before .before .before .before .before .before .before .before .before .before .before .before .before .before .before .before in (
+      record { ok = s .pre .0; sizes = c .before .before .before .before .before .before .before .before .before .before .before .before .before .before .before .before .read-sizes .ensures; index = c .before .before .before .before .before .before .before .before .before .before .before .before .before .before .before .index .ensures; rows = table-rows _ _ _ (c .before .before .before .before .before .before .before .before .before .before .before .before .before .make-table .ensures); firsts = c .before .before .before .before .before .before .before .before .before .before .best-actions .ensures },
+      c .before .before .before .before .before .before .first-pool .ensures .0,
+      first-rights (s .args .b .now) (s .pre .0) _ (c .before .before .before .before .before .before .first-pool .ensures .1),
+      s .pre .3,
+      s .pre .4,
+    )
 
 same-length : tie.Need-same-length
 same-length c = search needs

@@ -1,0 +1,46 @@
+// The K best policies of a book: the questions 1 to 16, and the list in the two lent slices.
+ghost use mathlib.Core.Path.{_≡_};
+ghost use lib.ListN.{length};
+ghost use Rattle.model.specs.Calls.{roomOf, rankNumber, rankCount, rankCosts, rankPlans};
+
+// The number of the first question that is answered no, or 0; and how many policies are listed, 0 where the call is refused.
+pub struct Ranking {
+    pub no: u32,
+    pub k: usize,
+}
+
+// The number of the first of the questions 1 to 16 that is answered no, for slices of c costs and p bytes.
+fn room_number(b: &[i32], k: usize, c: usize, p: usize) -> u32
+    ensures { λ r. ⌜ r ≡ rankNumber (now (b .entry)) (record { k = k; costs = c; plans = p }) ⌝ }
+{
+    let no = check_book::check(b);
+    if no != 0 {
+        return no;
+    }
+    if k < 1 {
+        return 14;
+    }
+    if 64 < k {
+        return 14;
+    }
+    if c < k {
+        return 15;
+    }
+    let z = book::read_sizes(b);
+    if p < k * z.s {
+        return 16;
+    }
+    0
+}
+
+// The list for any book, count and slices. A refusal writes nothing.
+pub fn rank(b: &[i32], k: usize, costs: &mut [i64], plans: &mut [u8]) -> Ranking
+    ensures { λ r. ⌜ (r .no ≡ rankNumber (now (b .entry)) (roomOf k (now (costs .entry)) (now (plans .entry)))) × (r .k ≡ rankCount (now (b .entry)) (roomOf k (now (costs .entry)) (now (plans .entry)))) × (now (costs .exit) ≡ rankCosts (now (b .entry)) k (now (costs .entry)) (now (plans .entry))) × (now (plans .exit) ≡ rankPlans (now (b .entry)) k (now (costs .entry)) (now (plans .entry))) ⌝ }
+{
+    let no = room_number(b, k, costs.len(), plans.len());
+    if no != 0 {
+        return Ranking { no: no, k: 0 };
+    }
+    let n = engine::list(b, k, costs, plans);
+    Ranking { no: 0, k: n }
+}
