@@ -3,3 +3,4 @@ pub mod Lengths
 pub mod Passed
 pub mod Carried
 pub mod Demand2
+pub mod Demand3
