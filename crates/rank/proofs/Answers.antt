@@ -1,21 +1,18 @@
 -- What each question of ranking gives, and what all of them passed say.
 -- Assumes nothing.
-use mathlib.Core.Path.{_≡_, sym, ap, _∙_}
-use mathlib.Core.Bool.{Bool, false, _&&_}
-use mathlib.Core.List.{List, []}
-use mathlib.Core.Logic.{_⊎_, inl, inr}
+use mathlib.Core.Path.{_≡_, sym, _∙_}
+use mathlib.Core.List.{List}
+use mathlib.Core.Logic.{_⊎_}
 use Prim.Native.Nat.{ℕ, _*_, _≤_, _<_}
 use native.Mathlib.Omega.{arith}
 use borrow.Author.Tests.{le-leb, lt-leb, leb-true}
-use lib.Dec.{leb}
 use lib.IntN.{ℤ}
 use Rattle.model.specs.Model.{Words, stateCount}
 use Rattle.model.specs.Questions.{firstNo, andThen, bookNumber}
 use Rattle.model.specs.Record.{countQuestions}
 use Rattle.model.specs.Calls.{Room, roomQuestions, roomOf, rankNumber, rankCount, rankCosts, rankPlans}
-use Rattle.questions.specs.Ranges.{and-right}
 use Rattle.questions.specs.FirstNo.{fails, passes, none, passed, then-no, then-yes, refused, accepted}
-use Rattle.record.specs.Passed.{count-says, count-passed}
+use Rattle.record.specs.Passed.{count-says, count-passed, count-fails}
 use Rattle.engine.specs.Engine.{Ranked}
 
 module _ (ws : Words) (r : Room) where
@@ -27,14 +24,8 @@ module _ (ws : Words) (r : Room) where
     pub count-no : (r .k < 1) ⊎ (64 < r .k) → 14 ≡ rankNumber ws r
     unfolding rankNumber
     count-no h =
+        let n = count-fails (r .k) h in
         sym (then-yes (bookNumber ws) _ ok ∙ then-no (firstNo countQuestions (r .k)) _ (λ z. omega (arith, n, z)) ∙ n)
-      where
-        no : (r .k < 1) ⊎ (64 < r .k) → (leb 1 (r .k) && leb (r .k) 64) ≡ false
-        no (inl l) = ap (λ (t : Bool). t && leb (r .k) 64) (lt-leb 1 (r .k) l)
-        no (inr l) = ap (λ (t : Bool). leb 1 (r .k) && t) (lt-leb (r .k) 64 l) ∙ and-right (leb 1 (r .k))
-
-        n : firstNo countQuestions (r .k) ≡ 14
-        n = fails (r .k) _ [] (no h)
 
     module _ (low : 1 ≤ r .k) (high : r .k ≤ 64) where
       to-room : rankNumber ws r ≡ firstNo (roomQuestions ws) r

@@ -1,11 +1,12 @@
 -- What the questions 14 and 19 to 21 say of a record, once they are passed, and that nothing else is asked.
 -- Assumes nothing.
-use mathlib.Core.Path.{_≡_, refl, _∙_}
-use mathlib.Core.Bool.{Bool, true, _&&_}
+use mathlib.Core.Path.{_≡_, refl, ap, _∙_}
+use mathlib.Core.Bool.{Bool, true, false, _&&_}
+use mathlib.Core.Logic.{_⊎_, inl, inr}
 use mathlib.Core.List.{List, []}
-use Prim.Native.Nat.{ℕ, zero, suc, _+_, _*_, _≤_}
+use Prim.Native.Nat.{ℕ, zero, suc, _+_, _*_, _≤_, _<_}
 use native.Mathlib.Omega.{arith}
-use borrow.Author.Tests.{leb-true, le-leb, eqb-true, eq-eqb}
+use borrow.Author.Tests.{leb-true, le-leb, lt-leb, eqb-true, eq-eqb}
 use lib.Dec.{leb, eqb}
 use lib.ListN.{length, drop}
 use Rattle.model.specs.Lists.{same}
@@ -14,8 +15,8 @@ use Rattle.model.specs.Questions.{firstNo, andThen, bookNumber}
 use Rattle.model.specs.Order.{ranking}
 use Rattle.model.specs.Record.{listBytes, carriedLength, carriedK, carriedCount, carriedBook, listStart}
 use Rattle.model.specs.Record.{countQuestions, headQuestions, tailQuestions, acceptNumber}
-use Rattle.questions.specs.Ranges.{and-true}
-use Rattle.questions.specs.FirstNo.{passed, passes, none}
+use Rattle.questions.specs.Ranges.{and-true, and-right}
+use Rattle.questions.specs.FirstNo.{fails, passed, passes, none}
 use Rattle.bytes_io.proofs.Same.{same-eq, eq-same}
 
 -- 14
@@ -26,6 +27,13 @@ count-says k e =
 
 pub count-passed : (k : ℕ) → 1 ≤ k → k ≤ 64 → firstNo countQuestions k ≡ 0
 count-passed k l h = passes k _ [] (rw (le-leb 1 k l, le-leb k 64 h)) ∙ none k
+
+pub count-fails : (k : ℕ) → (k < 1) ⊎ (64 < k) → firstNo countQuestions k ≡ 14
+count-fails k h = fails k _ [] (no h)
+  where
+    no : (k < 1) ⊎ (64 < k) → (leb 1 k && leb k 64) ≡ false
+    no (inl l) = ap (λ (t : Bool). t && leb k 64) (lt-leb 1 k l)
+    no (inr l) = ap (λ (t : Bool). leb 1 k && t) (lt-leb k 64 l) ∙ and-right (leb 1 k)
 
 module _ (bs : List ℕ) where
   -- where the list begins

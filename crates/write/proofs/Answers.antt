@@ -1,13 +1,11 @@
 -- What each question of writing gives, and what the list in two arrays is good for.
 -- Assumes nothing.
 use mathlib.Core.Path.{_≡_, sym, ap, _∙_}
-use mathlib.Core.Bool.{Bool, false, _&&_}
-use mathlib.Core.List.{List, []}
-use mathlib.Core.Logic.{_⊎_, inl, inr}
+use mathlib.Core.List.{List}
+use mathlib.Core.Logic.{_⊎_}
 use Prim.Native.Nat.{ℕ, _*_, _≤_, _<_}
 use native.Mathlib.Omega.{arith}
 use borrow.Author.Tests.{le-leb, lt-leb}
-use lib.Dec.{leb}
 use lib.IntN.{ℤ}
 use lib.ListN.{length, take, drop, length-append}
 use lib.Seq.{take-at}
@@ -18,9 +16,8 @@ use Rattle.model.specs.Policy.{Policy}
 use Rattle.model.specs.Order.{ranking, rankingCosts}
 use Rattle.model.specs.Record.{countQuestions, recordBytes}
 use Rattle.model.specs.Calls.{over, writeNumber, writeLength, writeRecord}
-use Rattle.questions.specs.Ranges.{and-right}
 use Rattle.questions.specs.FirstNo.{fails, passes, none, then-no, then-yes, refused, accepted}
-use Rattle.record.specs.Passed.{count-passed}
+use Rattle.record.specs.Passed.{count-passed, count-fails}
 use Rattle.record.specs.Listed.{Listed}
 use Rattle.record.specs.Lengths.{costs-length, flat-length}
 use Rattle.engine.specs.Engine.{Ranked}
@@ -62,14 +59,9 @@ module _ (ws : Words) (k : ℕ) (out : List ℕ) where
   module _ (ok : bookNumber ws ≡ 0) where
     pub count-no : (k < 1) ⊎ (64 < k) → 14 ≡ writeNumber ws k (length out)
     unfolding writeNumber
-    count-no h = sym (then-yes (bookNumber ws) _ ok ∙ then-no (firstNo countQuestions k) _ (λ z. omega (arith, n, z)) ∙ n)
-      where
-        no : (k < 1) ⊎ (64 < k) → (leb 1 k && leb k 64) ≡ false
-        no (inl l) = ap (λ (t : Bool). t && leb k 64) (lt-leb 1 k l)
-        no (inr l) = ap (λ (t : Bool). leb 1 k && t) (lt-leb k 64 l) ∙ and-right (leb 1 k)
-
-        n : firstNo countQuestions k ≡ 14
-        n = fails k _ [] (no h)
+    count-no h =
+        let n = count-fails k h in
+        sym (then-yes (bookNumber ws) _ ok ∙ then-no (firstNo countQuestions k) _ (λ z. omega (arith, n, z)) ∙ n)
 
     module _ (low : 1 ≤ k) (high : k ≤ 64) where
       pub room-no : length out < length (recordBytes ws k) → 18 ≡ writeNumber ws k (length out)

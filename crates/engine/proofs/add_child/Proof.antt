@@ -7,8 +7,8 @@ use native.Mathlib.Omega.{arith}
 use lib.IntN.{ℤ, pos, _+ℤ_, _-ℤ_, _*ℤ_}
 use mir.Syntax.{w64}
 use mir.Val.{toZ, ofZ}
-use lib.ListN.{length, getD, take, drop, length-append}
-use lib.Seq.{length-take-le, take-at}
+use lib.ListN.{length, getD, take, drop}
+use lib.Seq.{length-take-le}
 use Rattle.model.specs.Model.{Words, stateCount, action}
 use Rattle.accepted.specs.Facts.{accepted}
 use Rattle.costs.proofs.Sums.{read64}
@@ -19,6 +19,7 @@ use Rattle.build.specs.Walk.{walkBy, chosen}
 use Rattle.child.proofs.Plans.{usable}
 use Rattle.engine.specs.Engine.{entryOf}
 use Rattle.engine.proofs.Child.{Facts, facts, added}
+use Rattle.engine.proofs.Parts as parts
 use Rattle.engine.proofs.add_child.Statement.{statement}
 use Rattle.engine.proofs.add_child.Tie as tie
 
@@ -42,19 +43,19 @@ row-long row h s = length-take-le (s .args .z .s) row (omega (arith, few s))
 abbrev walk : tie.Start → List ℕ
 walk s = walkBy (action (ws s)) (chosen (ws s) (s .args .plan .now) (s .args .p) (s .args .c)) (stateCount (ws s)) 0 (0 ∷ [])
 
--- the bytes of the walk are as many as the states, and stand before the rest of the row
+-- the bytes of the walk are the child's, and stand before the rest of the row
 module _ {o : List ℕ} (s : tie.Start) (rest : List ℕ) (e : o ≡ walk s) where
-  walk-long : length o ≡ s .args .z .s
-  walk-long = ap length (e ∙ known s .plan-is) ∙ known s .child-long ∙ sym (s .pre .0 .sizes .s-is)
+  long : length (childEntry (ws s) (en s) (s .args .p) .plan) ≡ s .args .z .s
+  long = known s .child-long ∙ sym (s .pre .0 .sizes .s-is)
 
   grown : s .args .z .s ≤ length (o ++ rest)
-  grown = omega (arith, length-append o rest, walk-long)
+  grown = parts.grown (s .args .z .s) rest (childEntry (ws s) (en s) (s .args .p) .plan) (e ∙ known s .plan-is) long
 
   front : take (s .args .z .s) (o ++ rest) ≡ childEntry (ws s) (en s) (s .args .p) .plan
-  front = take-at o rest (s .args .z .s) walk-long ∙ e ∙ known s .plan-is
+  front = parts.front (s .args .z .s) rest (childEntry (ws s) (en s) (s .args .p) .plan) (e ∙ known s .plan-is) long
 
   front-long : length (take (s .args .z .s) (o ++ rest)) ≡ s .args .z .s
-  front-long = ap length (take-at o rest (s .args .z .s) walk-long) ∙ walk-long
+  front-long = parts.front-long (s .args .z .s) rest (childEntry (ws s) (en s) (s .args .p) .plan) (e ∙ known s .plan-is) long
 
 -- the cost that is passed on is the child's
 money : (s : tie.Start) (r : ℤ)
