@@ -13,7 +13,7 @@ use Rattle.model.specs.Questions.{Question, firstNo, andThen, bookNumber
 use Rattle.model.specs.Policy.{Policy, isPolicy}
 use Rattle.model.specs.Path.{policyCost}
 use Rattle.model.specs.Order.{ranking, rankingCosts}
-use Rattle.model.specs.Record.{recordBytes, carriedCount, carriedBook, listStart, countQuestions, acceptNumber}
+use Rattle.model.specs.Record.{recordBytes, carriedCount, carriedBook, listStart, askedNumber, acceptNumber}
 
 -- what goes with the number 0, and what with any other
 abbrev pub ifAccepted : {A : Type 0} → ℕ → A → A → A
@@ -61,8 +61,7 @@ roomQuestions ws =
     ∷ []
 
 unfoldable pub rankNumber : Words → Room → ℕ
-rankNumber ws room =
-    andThen (bookNumber ws) (andThen (firstNo countQuestions (room .k)) (firstNo (roomQuestions ws) room))
+rankNumber ws room = andThen (askedNumber ws (room .k)) (firstNo (roomQuestions ws) room)
 
 unfoldable pub rankCount : Words → Room → ℕ
 rankCount ws room = ifAccepted (rankNumber ws room) (length (ranking ws (room .k))) 0
@@ -84,7 +83,7 @@ abbrev pub writeQuestions : Words → ℕ → List (Question ℕ)
 writeQuestions ws k = record { number = 18; asks = λ room. leb (length (recordBytes ws k)) room } ∷ []
 
 unfoldable pub writeNumber : Words → ℕ → ℕ → ℕ
-writeNumber ws k room = andThen (bookNumber ws) (andThen (firstNo countQuestions k) (firstNo (writeQuestions ws k) room))
+writeNumber ws k room = andThen (askedNumber ws k) (firstNo (writeQuestions ws k) room)
 
 unfoldable pub writeLength : Words → ℕ → ℕ → ℕ
 writeLength ws k room = ifAccepted (writeNumber ws k room) (length (recordBytes ws k)) 0

@@ -9,11 +9,10 @@ use lib.ListN.{length, take, drop}
 use Rattle.model.specs.Lists.{forEach}
 use Rattle.model.specs.Bytes.{fromBytes, wordsOf}
 use Rattle.model.specs.Model.{Words, scale, horizon}
-use Rattle.model.specs.Questions.{firstNo, andThen, bookNumber}
 use Rattle.model.specs.Policy.{Policy}
 use Rattle.model.specs.Path.{policyCost}
 use Rattle.model.specs.Order.{ranking}
-use Rattle.model.specs.Record.{countQuestions}
+use Rattle.model.specs.Record.{askedNumber}
 
 -- a number in base ten, of at most f digits
 abbrev pub digits : ℕ → ℕ → List ℕ
@@ -52,7 +51,7 @@ refusedLine n = (114 ∷ 101 ∷ 102 ∷ 117 ∷ 115 ∷ 101 ∷ 100 ∷ 32 ∷ 
 
 -- the page for a book and K, or the refusal
 unfoldable pub bookPage : Words → ℕ → List ℕ
-bookPage ws k = pageOf (andThen (bookNumber ws) (firstNo countQuestions k))
+bookPage ws k = pageOf (askedNumber ws k)
   where
     pageOf : ℕ → List ℕ
     pageOf zero = titleLine ws k ++ policyLines ws 1 (ranking ws k)

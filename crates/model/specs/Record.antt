@@ -45,6 +45,10 @@ listStart bs = 12 + 4 * carriedLength bs
 abbrev pub countQuestions : List (Question ℕ)
 countQuestions = record { number = 14; asks = λ k. leb 1 k && leb k 64 } ∷ []
 
+-- what ranking, writing and accepting ask of a book and a count: "1 to 14"
+unfoldable pub askedNumber : Words → ℕ → ℕ
+askedNumber ws k = andThen (bookNumber ws) (firstNo countQuestions k)
+
 -- 19: "are there 12 bytes, is W at most 4,172, and do 4 × W bytes follow?"
 abbrev pub headQuestions : List (Question (List ℕ))
 headQuestions =
@@ -69,5 +73,4 @@ tailQuestions =
 -- "Accepting a record asks: .. 19. Then 1 to 13 of the carried book, then 14 of its K, then: .. 20. .. 21."
 unfoldable pub acceptNumber : List ℕ → ℕ
 acceptNumber bs =
-    andThen (firstNo headQuestions bs)
-    (andThen (bookNumber (carriedBook bs)) (andThen (firstNo countQuestions (carriedK bs)) (firstNo tailQuestions bs)))
+    andThen (firstNo headQuestions bs) (andThen (askedNumber (carriedBook bs) (carriedK bs)) (firstNo tailQuestions bs))

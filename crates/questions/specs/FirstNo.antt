@@ -69,6 +69,10 @@ then-no (suc n) m h = refl
 pub then-yes : (n m : ℕ) → n ≡ 0 → andThen n m ≡ m
 then-yes n m e = rw e
 
+pub then-zero : (n m : ℕ) → andThen n m ≡ 0 → (n ≡ 0) × (m ≡ 0)
+then-zero zero m e = (refl, e)
+then-zero (suc n) m e = absurd (omega arith)
+
 pub refused : {A : Type 0} (n : ℕ) (a b : A) → (n ≡ 0 → ⊥) → ifAccepted n a b ≡ b
 refused zero a b h = absurd (h refl)
 refused (suc n) a b h = refl

@@ -2,67 +2,54 @@
 -- Assumes nothing.
 use mathlib.Core.Path.{_≡_, sym, _∙_}
 use mathlib.Core.List.{List}
-use mathlib.Core.Logic.{_⊎_}
 use Prim.Native.Nat.{ℕ, _*_, _≤_, _<_}
 use native.Mathlib.Omega.{arith}
 use borrow.Author.Tests.{le-leb, lt-leb, leb-true}
 use lib.IntN.{ℤ}
 use Rattle.model.specs.Model.{Words, stateCount}
-use Rattle.model.specs.Questions.{firstNo, andThen, bookNumber}
-use Rattle.model.specs.Record.{countQuestions}
+use Rattle.model.specs.Questions.{firstNo}
+use Rattle.model.specs.Record.{askedNumber}
 use Rattle.model.specs.Calls.{Room, roomQuestions, roomOf, rankNumber, rankCount, rankCosts, rankPlans}
-use Rattle.questions.specs.FirstNo.{fails, passes, none, passed, then-no, then-yes, refused, accepted}
-use Rattle.record.specs.Passed.{count-says, count-passed, count-fails}
+use Rattle.questions.specs.FirstNo.{fails, passes, none, passed, then-no, then-yes, then-zero, refused, accepted}
+use Rattle.asked.specs.Asked.{Asked, asked-says}
 use Rattle.engine.specs.Engine.{Ranked}
 
 module _ (ws : Words) (r : Room) where
-  pub book-no : (bookNumber ws ≡ 0 → ⊥) → bookNumber ws ≡ rankNumber ws r
+  pub asked-no : (askedNumber ws (r .k) ≡ 0 → ⊥) → askedNumber ws (r .k) ≡ rankNumber ws r
   unfolding rankNumber
-  book-no h = sym (then-no (bookNumber ws) _ h)
+  asked-no h = sym (then-no (askedNumber ws (r .k)) _ h)
 
-  module _ (ok : bookNumber ws ≡ 0) where
-    pub count-no : (r .k < 1) ⊎ (64 < r .k) → 14 ≡ rankNumber ws r
+  module _ (ok : askedNumber ws (r .k) ≡ 0) where
+    to-room : rankNumber ws r ≡ firstNo (roomQuestions ws) r
     unfolding rankNumber
-    count-no h =
-        let n = count-fails (r .k) h in
-        sym (then-yes (bookNumber ws) _ ok ∙ then-no (firstNo countQuestions (r .k)) _ (λ z. omega (arith, n, z)) ∙ n)
+    to-room = then-yes (askedNumber ws (r .k)) _ ok
 
-    module _ (low : 1 ≤ r .k) (high : r .k ≤ 64) where
-      to-room : rankNumber ws r ≡ firstNo (roomQuestions ws) r
-      unfolding rankNumber
-      to-room =
-          then-yes (bookNumber ws) _ ok ∙ then-yes (firstNo countQuestions (r .k)) _ (count-passed (r .k) low high)
+    pub costs-no : r .costs < r .k → 15 ≡ rankNumber ws r
+    costs-no l = sym (to-room ∙ fails r _ _ (lt-leb (r .k) (r .costs) l))
 
-      pub costs-no : r .costs < r .k → 15 ≡ rankNumber ws r
-      costs-no l = sym (to-room ∙ fails r _ _ (lt-leb (r .k) (r .costs) l))
+    pub plans-no : r .k ≤ r .costs → r .plans < r .k * stateCount ws → 16 ≡ rankNumber ws r
+    plans-no c l = sym (to-room ∙ passes r _ _ (le-leb (r .k) (r .costs) c) ∙ fails r _ _ (lt-leb (r .k * stateCount ws) (r .plans) l))
 
-      pub plans-no : r .k ≤ r .costs → r .plans < r .k * stateCount ws → 16 ≡ rankNumber ws r
-      plans-no c l = sym (to-room ∙ passes r _ _ (le-leb (r .k) (r .costs) c) ∙ fails r _ _ (lt-leb (r .k * stateCount ws) (r .plans) l))
-
-      pub all-yes : r .k ≤ r .costs → r .k * stateCount ws ≤ r .plans → 0 ≡ rankNumber ws r
-      all-yes c p =
-          sym (to-room ∙ passes r _ _ (le-leb (r .k) (r .costs) c) ∙ passes r _ _ (le-leb (r .k * stateCount ws) (r .plans) p) ∙ none r)
+    pub all-yes : r .k ≤ r .costs → r .k * stateCount ws ≤ r .plans → 0 ≡ rankNumber ws r
+    all-yes c p =
+        sym (to-room ∙ passes r _ _ (le-leb (r .k) (r .costs) c) ∙ passes r _ _ (le-leb (r .k * stateCount ws) (r .plans) p) ∙ none r)
 
   -- what a call that is not refused may use
   pub record Passed : Type 0 where
-    pub ok : bookNumber ws ≡ 0
-    pub k-low : 1 ≤ r .k
-    pub k-high : r .k ≤ 64
+    pub asked : Asked ws (r .k)
     pub costs-room : r .k ≤ r .costs
     pub plans-room : r .k * stateCount ws ≤ r .plans
-
-  then-zero : (n m : ℕ) → andThen n m ≡ 0 → (n ≡ 0) × (m ≡ 0)
-  then-zero Prim.Native.Nat.zero m h = (omega arith, h)
-  then-zero (Prim.Native.Nat.suc n) m h = absurd (omega (arith, h))
 
   pub passed-all : rankNumber ws r ≡ 0 → Passed
   unfolding rankNumber
   passed-all h =
-      let a = then-zero (bookNumber ws) _ h in
-      let b = then-zero (firstNo countQuestions (r .k)) _ (a .1) in
-      let c = count-says (r .k) (b .0) in
-      let y = passed r (roomQuestions ws) (omega arith, (omega arith, tt)) (b .1) in
-      record { ok = a .0; k-low = c .0; k-high = c .1; costs-room = leb-true (r .k) (r .costs) (y .0); plans-room = leb-true (r .k * stateCount ws) (r .plans) (y .1 .0) }
+      let a = then-zero (askedNumber ws (r .k)) _ h in
+      let y = passed r (roomQuestions ws) (omega arith, (omega arith, tt)) (a .1) in
+      record {
+        asked = asked-says ws (r .k) (a .0);
+        costs-room = leb-true (r .k) (r .costs) (y .0);
+        plans-room = leb-true (r .k * stateCount ws) (r .plans) (y .1 .0);
+      }
 
 -- ---- the whole call
 

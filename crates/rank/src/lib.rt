@@ -1,6 +1,5 @@
 // The K best policies of a book: the questions 1 to 16, and the list in the two lent slices.
 ghost use mathlib.Core.Path.{_≡_};
-ghost use lib.ListN.{length};
 ghost use Rattle.model.specs.Calls.{roomOf, rankNumber, rankCount, rankCosts, rankPlans};
 
 // The number of the first question that is answered no, or 0; and how many policies are listed, 0 where the call is refused.
@@ -13,15 +12,9 @@ pub struct Ranking {
 fn room_number(b: &[i32], k: usize, c: usize, p: usize) -> u32
     ensures { λ r. ⌜ r ≡ rankNumber (now (b .entry)) (record { k = k; costs = c; plans = p }) ⌝ }
 {
-    let no = check_book::check(b);
+    let no = asked::asked_number(b, k);
     if no != 0 {
         return no;
-    }
-    if k < 1 {
-        return 14;
-    }
-    if 64 < k {
-        return 14;
     }
     if c < k {
         return 15;

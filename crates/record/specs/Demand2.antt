@@ -57,8 +57,7 @@ module _ (bs : List ℕ) (ok : bookNumber (carriedBook bs) ≡ 0) (low : 1 ≤ c
   written-passes =
       record {
         head = record { long = omega (arith, long); words = omega (arith, book-length ws ok, book-length-is bs); follow = omega (arith, long) };
-        book = ok;
-        asked = (low, high);
+        asked = record { ok = ok; low = low; high = high };
         sized = record {
           some = omega (arith, count, count-some ws k ok low);
           most = omega (arith, count, count-most ws k ok);
@@ -72,7 +71,7 @@ pub accepted-exactly : (bs : List ℕ) → Every (λ b. b < 256) bs
     → (acceptNumber bs ≡ 0)
     ↔ ((bookNumber (carriedBook bs) ≡ 0) × (1 ≤ carriedK bs) × (carriedK bs ≤ 64) × (bs ≡ recordBytes (carriedBook bs) (carriedK bs)))
 accepted-exactly bs b = (
-  λ z. let a = accept-says bs z in (a .book, a .asked .0, a .asked .1, accepted-written bs b a),
+  λ z. let a = accept-says bs z in (a .asked .ok, a .asked .low, a .asked .high, accepted-written bs b a),
   λ w. accept-passed bs (written-passes bs (w .0) (w .1) (w .2) (w .3)),
 )
 

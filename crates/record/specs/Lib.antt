@@ -1,5 +1,5 @@
-pub mod Listed
 pub mod Lengths
+pub mod Listed
 pub mod Passed
 pub mod Carried
 pub mod Demand2

@@ -1,39 +1,23 @@
--- What the questions 14 and 19 to 21 say of a record, once they are passed, and that nothing else is asked.
+-- What the questions 19 to 21 say of a record, once they are passed, and that nothing else is asked.
 -- Assumes nothing.
-use mathlib.Core.Path.{_≡_, refl, ap, _∙_}
-use mathlib.Core.Bool.{Bool, true, false, _&&_}
-use mathlib.Core.Logic.{_⊎_, inl, inr}
+use mathlib.Core.Path.{_≡_, refl, _∙_}
+use mathlib.Core.Bool.{Bool, true, _&&_}
 use mathlib.Core.List.{List, []}
-use Prim.Native.Nat.{ℕ, zero, suc, _+_, _*_, _≤_, _<_}
+use Prim.Native.Nat.{ℕ, _+_, _*_, _≤_}
 use native.Mathlib.Omega.{arith}
-use borrow.Author.Tests.{leb-true, le-leb, lt-leb, eqb-true, eq-eqb}
+use borrow.Author.Tests.{leb-true, le-leb, eqb-true, eq-eqb}
 use lib.Dec.{leb, eqb}
 use lib.ListN.{length, drop}
 use Rattle.model.specs.Lists.{same}
 use Rattle.model.specs.Model.{stateCount}
-use Rattle.model.specs.Questions.{firstNo, andThen, bookNumber}
+use Rattle.model.specs.Questions.{firstNo}
 use Rattle.model.specs.Order.{ranking}
 use Rattle.model.specs.Record.{listBytes, carriedLength, carriedK, carriedCount, carriedBook, listStart}
-use Rattle.model.specs.Record.{countQuestions, headQuestions, tailQuestions, acceptNumber}
-use Rattle.questions.specs.Ranges.{and-true, and-right}
-use Rattle.questions.specs.FirstNo.{fails, passed, passes, none}
+use Rattle.model.specs.Record.{headQuestions, tailQuestions, askedNumber, acceptNumber}
+use Rattle.questions.specs.Ranges.{and-true}
+use Rattle.questions.specs.FirstNo.{passed, passes, none, then-zero}
+use Rattle.asked.specs.Asked.{Asked, asked-says, asked-passed}
 use Rattle.bytes_io.proofs.Same.{same-eq, eq-same}
-
--- 14
-pub count-says : (k : ℕ) → firstNo countQuestions k ≡ 0 → (1 ≤ k) × (k ≤ 64)
-count-says k e =
-    let y = and-true (leb 1 k) (leb k 64) (passed k countQuestions (omega arith) e .0) in
-    (leb-true 1 k (y .0), leb-true k 64 (y .1))
-
-pub count-passed : (k : ℕ) → 1 ≤ k → k ≤ 64 → firstNo countQuestions k ≡ 0
-count-passed k l h = passes k _ [] (rw (le-leb 1 k l, le-leb k 64 h)) ∙ none k
-
-pub count-fails : (k : ℕ) → (k < 1) ⊎ (64 < k) → firstNo countQuestions k ≡ 14
-count-fails k h = fails k _ [] (no h)
-  where
-    no : (k < 1) ⊎ (64 < k) → (leb 1 k && leb k 64) ≡ false
-    no (inl l) = ap (λ (t : Bool). t && leb k 64) (lt-leb 1 k l)
-    no (inr l) = ap (λ (t : Bool). leb 1 k && t) (lt-leb k 64 l) ∙ and-right (leb 1 k)
 
 module _ (bs : List ℕ) where
   -- where the list begins
@@ -127,30 +111,19 @@ module _ (bs : List ℕ) where
   -- all that is asked of a record
   pub record AcceptedRecord : Type 0 where
     pub head : RecordHead
-    pub book : bookNumber (carriedBook bs) ≡ 0
-    pub asked : (1 ≤ carriedK bs) × (carriedK bs ≤ 64)
+    pub asked : Asked (carriedBook bs) (carriedK bs)
     pub sized : RecordSizes
     pub ranked : RecordList
-
-  both : (m n : ℕ) → andThen m n ≡ 0 → (m ≡ 0) × (n ≡ 0)
-  both zero n e = (refl, e)
-  both (suc m) n e = absurd (omega arith)
 
   pub accept-says : acceptNumber bs ≡ 0 → AcceptedRecord
   unfolding acceptNumber
   accept-says e =
-      let a = both (firstNo headQuestions bs) _ e in
-      let b = both (bookNumber (carriedBook bs)) _ (a .1) in
-      let c = both (firstNo countQuestions (carriedK bs)) _ (b .1) in
-      let t = tail-says (c .1) in
-      record { head = head-says (a .0); book = b .0; asked = count-says (carriedK bs) (c .0); sized = t .0; ranked = t .1 }
+      let a = then-zero (firstNo headQuestions bs) _ e in
+      let b = then-zero (askedNumber (carriedBook bs) (carriedK bs)) _ (a .1) in
+      let t = tail-says (b .1) in
+      record { head = head-says (a .0); asked = asked-says (carriedBook bs) (carriedK bs) (b .0); sized = t .0; ranked = t .1 }
 
   pub accept-passed : AcceptedRecord → acceptNumber bs ≡ 0
   unfolding acceptNumber
   accept-passed a =
-      rw (
-        head-passed (a .head),
-        a .book,
-        count-passed (carriedK bs) (a .asked .0) (a .asked .1),
-        tail-passed (a .sized) (a .ranked),
-      )
+      rw (head-passed (a .head), asked-passed (carriedBook bs) (carriedK bs) (a .asked), tail-passed (a .sized) (a .ranked))

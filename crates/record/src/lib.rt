@@ -6,14 +6,35 @@ ghost use lib.ListN.{length, take, drop};
 ghost use Rattle.model.specs.Lists.{forEach, same};
 ghost use Rattle.model.specs.Bytes.{signedBytes};
 ghost use Rattle.model.specs.Model.{stateCount};
-ghost use Rattle.model.specs.Questions.{firstNo, bookNumber};
+ghost use Rattle.model.specs.Questions.{firstNo};
 ghost use Rattle.model.specs.Record.{recordBytes, carriedLength, carriedK, carriedCount, carriedBook};
-ghost use Rattle.model.specs.Record.{countQuestions, headQuestions, tailQuestions, acceptNumber};
+ghost use Rattle.model.specs.Record.{headQuestions, tailQuestions, acceptNumber};
 ghost use Rattle.model.specs.Calls.{over, acceptStates, acceptCount, shown};
+ghost use Rattle.asked.specs.Asked.{Asked};
 ghost use Rattle.bytes_io.specs.Slices.{written};
 ghost use Rattle.record.specs.Listed.{Listed};
 ghost use Rattle.record.specs.Lengths.{headBytes};
 ghost use Rattle.record.specs.Passed.{RecordHead, sizesFit};
+
+// ---- where the list and the book are put
+
+pub fn no_costs() -> [i64; 64]
+    ensures { λ r. ⌜ length r ≡ 64 ⌝ }
+{
+    [0; 64]
+}
+
+pub fn no_plans() -> [u8; 4096]
+    ensures { λ r. ⌜ length r ≡ 4096 ⌝ }
+{
+    [0; 4096]
+}
+
+pub fn no_book() -> [i32; 4172]
+    ensures { λ r. ⌜ length r ≡ 4172 ⌝ }
+{
+    [0; 4172]
+}
 
 // ---- writing
 
@@ -47,7 +68,7 @@ pub fn put_record(
     plans: &[u8],
     out: &mut [u8],
 )
-    requires { ⌜ (bookNumber (now b) ≡ 0) × (s ≡ stateCount (now b)) × (1 ≤ k) × (k ≤ 64) × Listed (now b) k n (now costs) (now plans) × (length (recordBytes (now b) k) ≤ length (now out)) ⌝ }
+    requires { ⌜ Asked (now b) k × (s ≡ stateCount (now b)) × Listed (now b) k n (now costs) (now plans) × (length (recordBytes (now b) k) ≤ length (now out)) ⌝ }
     ensures { λ _. ⌜ now (out .exit) ≡ over (recordBytes (now (b .entry)) k) (now (out .entry)) ⌝ }
 {
     put_head(b, k, n, out);
@@ -137,7 +158,7 @@ fn same_list(r: &[u8], at: usize, s: usize, n: usize, costs: &[i64], plans: &[u8
 
 // 20, then 21: are costs, plans and k those of the arrays, which hold the ranking?
 pub fn tail_number(r: &[u8], s: usize, n: usize, costs: &[i64], plans: &[u8]) -> u32
-    requires { ⌜ (firstNo headQuestions (now r) ≡ 0) × (bookNumber (carriedBook (now r)) ≡ 0) × (s ≡ stateCount (carriedBook (now r))) × (firstNo countQuestions (carriedK (now r)) ≡ 0) × Listed (carriedBook (now r)) (carriedK (now r)) n (now costs) (now plans) ⌝ }
+    requires { ⌜ (firstNo headQuestions (now r) ≡ 0) × Asked (carriedBook (now r)) (carriedK (now r)) × (s ≡ stateCount (carriedBook (now r))) × Listed (carriedBook (now r)) (carriedK (now r)) n (now costs) (now plans) ⌝ }
     ensures { λ x. ⌜ x ≡ firstNo tailQuestions (now (r .entry)) ⌝ }
 {
     if !sizes_fit(r, s) {

@@ -24,7 +24,7 @@ list-requires : tie.Need-list-requires
 list-requires c κs =
     let s = c .before .before .before .before .before in
     let p = passed-all (s .args .b .now) (roomOf (s .args .k) (s .args .costs .now) (s .args .plans .now)) (good (c .before .before)) in
-    (p .ok, p .k-low, p .k-high, p .costs-room, p .plans-room)
+    (p .asked .ok, p .asked .low, p .asked .high, p .costs-room, p .plans-room)
 
 same-length : tie.Need-same-length
 same-length c = search needs

@@ -11,7 +11,7 @@ use Rattle.model.specs.Record.{listBytes, carriedK, carriedCount, carriedBook, 
 use Rattle.questions.specs.FirstNo.{fails, passes, none}
 use Rattle.accepted.specs.Facts.{accepted}
 use Rattle.book.proofs.Words.{no, yes′}
-use Rattle.record.specs.Passed.{RecordHead, head-says, count-says, sizesFit, sizes-say, exact-length}
+use Rattle.record.specs.Passed.{RecordHead, head-says, sizesFit, sizes-say, exact-length}
 use Rattle.record.proofs.Parts.{plans-fit, list-asked}
 use Rattle.record.proofs.tail_number.Statement.{statement}
 use Rattle.record.proofs.tail_number.Tie as tie
@@ -28,7 +28,7 @@ count : (c : tie.Else2) →
     carriedCount r ≡ length (ranking (carriedBook r) (carriedK r))
 count c =
     let s = c .before .before .before .before .before .before in
-    sym (c .before .carried-count .ensures .0) ∙ c .if2 .left ∙ s .pre .4 .count
+    sym (c .before .carried-count .ensures .0) ∙ c .if2 .left ∙ s .pre .3 .count
 
 -- the answer on the list is question 21's
 asked : (c : tie.After-same-list) →
@@ -37,14 +37,14 @@ asked : (c : tie.After-same-list) →
 asked c =
     let s = c .before .before .before .before .before .before .before .before in
     let a = s .args in
-    list-asked (carriedBook (a .r .now)) (carriedK (a .r .now)) (a .n) (a .s) (a .costs .now) (a .plans .now) (s .pre .2) (s .pre .4) (a .r .now)
+    list-asked (carriedBook (a .r .now)) (carriedK (a .r .now)) (a .n) (a .s) (a .costs .now) (a .plans .now) (s .pre .2) (s .pre .3) (a .r .now)
     (c .before .carried-length .result) (c .same-list .result) (c .before .carried-length .ensures .0) (c .same-list .ensures)
 
 sizes-fit-requires : tie.Need-sizes-fit-requires
 sizes-fit-requires c κs =
     let s = c .before .before in
-    let z = accepted (carriedBook (s .args .r .now)) (s .pre .1) .sizes in
-    (headed s, s .pre .2, omega (arith, s .pre .2, z .s-high), count-says (carriedK (s .args .r .now)) (s .pre .3) .1)
+    let z = accepted (carriedBook (s .args .r .now)) (s .pre .1 .ok) .sizes in
+    (headed s, s .pre .2, omega (arith, s .pre .2, z .s-high), s .pre .1 .high)
 
 returns : tie.Need-returns
 returns c = sym (fails _ _ _ (no (c .before .sizes-fit .ensures) (c .if1 .taken)))
@@ -60,7 +60,7 @@ returns-2 c =
     (passes _ _ _ (fit (c .before .before))
     ∙ fails _ _ _
     (rw (ne-eqb (carriedCount r) (length (ranking (carriedBook r) (carriedK r)))
-    (λ e. c .if2 .taken (c .before .carried-count .ensures .0 ∙ e ∙ sym (s .pre .4 .count))))))
+    (λ e. c .if2 .taken (c .before .carried-count .ensures .0 ∙ e ∙ sym (s .pre .3 .count))))))
 
 carried-length-requires : tie.Need-carried-length-requires
 carried-length-requires c κs = headed (c .before .before .before .before .before .before) .long
@@ -78,8 +78,8 @@ same-list-requires c κs =
     let d = c .before .before in (
       exact-length (a .r .now) (c .carried-length .result) (a .n) (a .s) (c .carried-length .ensures .0)
           (sym (c .before .if2 .left) ∙ d .carried-count .ensures .0) (s .pre .2) (sizes-say (a .r .now) (fit (d .before))),
-      s .pre .4 .costs-long,
-      plans-fit (carriedBook (a .r .now)) (carriedK (a .r .now)) (a .n) (a .s) (a .costs .now) (a .plans .now) (s .pre .2) (s .pre .4),
+      s .pre .3 .costs-long,
+      plans-fit (carriedBook (a .r .now)) (carriedK (a .r .now)) (a .n) (a .s) (a .costs .now) (a .plans .now) (s .pre .2) (s .pre .3),
     )
 
 returns-3 : tie.Need-returns-3

@@ -1,46 +1,32 @@
 -- The questions in order, the list in two arrays, and the record of it.
 -- Assumes nothing.
-use mathlib.Core.Path.{_≡_, sym, _∙_}
-use mathlib.Core.Logic.{inl, inr}
-use Prim.Native.Nat.{_≤_}
-use native.Mathlib.Nat.{mul-le-mul}
-use native.Mathlib.Omega.{arith}
-use Rattle.model.specs.Model.{Words, stateCount}
-use Rattle.model.specs.Questions.{bookNumber}
-use Rattle.accepted.specs.Facts.{accepted}
+use mathlib.Core.Path.{sym, _∙_}
+use Rattle.model.specs.Model.{Words}
+use Rattle.asked.specs.Asked.{Asked, asked-says}
 use Rattle.index.proofs.Lines.{headed}
-use Rattle.write.proofs.Answers.{listed, refuses, book-no, count-no}
+use Rattle.record.specs.Listed.{arrays-hold, listed}
+use Rattle.write.proofs.Answers.{refuses, asked-no}
 use borrow.Author.Needs.{needs}
 use Rattle.write.proofs.write.Statement.{statement}
 use Rattle.write.proofs.write.Tie as tie
 
-check-requires : tie.Need-check-requires
-check-requires c κs = tt
+asked-number-requires : tie.Need-asked-number-requires
+asked-number-requires c κs = tt
 
 abbrev ws : tie.Start → Words
 ws s = s .args .b .now
 
-good : (c : tie.Else1) → bookNumber (c .before .before .before .args .b .now) ≡ 0
-good c = sym (c .before .check .ensures) ∙ c .if1 .left
+good : (c : tie.Else1) → Asked (c .before .before .before .args .b .now) (c .before .before .before .args .k)
+good c = asked-says _ _ (sym (c .before .asked-number .ensures) ∙ c .if1 .left)
 
 returns : tie.Need-returns
 returns c =
     let s = c .before .before .before in
-    let e = c .before .check .ensures in
-    refuses (ws s) (s .args .k) (s .args .out .now) _ (e ∙ book-no (ws s) (s .args .k) (s .args .out .now) (λ z. c .if1 .taken (e ∙ z))) (c .if1 .taken)
-
-returns-2 : tie.Need-returns-2
-returns-2 c =
-    let s = c .before .before .before .before in
-    refuses (ws s) (s .args .k) (s .args .out .now) 14 (count-no (ws s) (s .args .k) (s .args .out .now) (good (c .before)) (inl (c .if2 .taken))) (λ z. omega arith)
-
-returns-3 : tie.Need-returns-3
-returns-3 c =
-    let s = c .before .before .before .before .before in
-    refuses (ws s) (s .args .k) (s .args .out .now) 14 (count-no (ws s) (s .args .k) (s .args .out .now) (good (c .before .before)) (inr (c .if3 .taken))) (λ z. omega arith)
+    let e = c .before .asked-number .ensures in
+    refuses (ws s) (s .args .k) (s .args .out .now) _ (e ∙ asked-no (ws s) (s .args .k) (s .args .out .now) (λ z. c .if1 .taken (e ∙ z))) (c .if1 .taken)
 
 read-sizes-requires : tie.Need-read-sizes-requires
-read-sizes-requires c κs = headed _ (good (c .before .before))
+read-sizes-requires c κs = headed _ (good c .ok)
 
 no-costs-requires : tie.Need-no-costs-requires
 no-costs-requires c κs = tt
@@ -56,18 +42,10 @@ slice-aggregate-list-2 c = search needs
 
 list-requires : tie.Need-list-requires
 list-requires c κs =
-    let s = c .before .before .before .before .before .before .before .before .before .before in
-    let high : s .args .k ≤ 64 = omega arith in (
-      good (c .before .before .before .before .before .before .before),
-      omega arith,
-      high,
-      omega (arith, c .before .before .before .no-costs .ensures),
-      omega (
-        arith,
-        c .before .before .no-plans .ensures,
-        mul-le-mul {n₁ = s .args .k} {m₁ = stateCount (ws s)} {n₂ = 64} {m₂ = 64} high (accepted (ws s) (good (c .before .before .before .before .before .before .before)) .sizes .s-high),
-      ),
-    )
+    let s = c .before .before .before .before .before .before .before .before in
+    let a = good (c .before .before .before .before .before) in
+    let h = arrays-hold (ws s) (s .args .k) a _ _ (c .before .before .before .no-costs .ensures) (c .before .before .no-plans .ensures) in
+    (a .ok, a .low, a .high, h .0, h .1)
 
 slice-aggregate-write-list : tie.Need-slice-aggregate-write-list
 slice-aggregate-write-list c = search needs
@@ -77,28 +55,26 @@ slice-aggregate-write-list-2 c = search needs
 
 write-list-requires : tie.Need-write-list-requires
 write-list-requires c κs =
-    let s = c .before .before .before .before .before .before .before .before .before .before .before .before .before .before .before .before in (
-      good (c .before .before .before .before .before .before .before .before .before .before .before .before .before),
+    let s = c .before .before .before .before .before .before .before .before .before .before .before .before .before .before in
+    let f = c .before .before .before .before .before .list .ensures in
+    let a = good (c .before .before .before .before .before .before .before .before .before .before .before) in (
+      a,
       c .before .before .before .before .before .before .before .before .before .before .read-sizes .ensures .s-is,
-      omega arith,
-      omega arith,
-      listed (ws s) (s .args .k) _ _ _ _ _ (good (c .before .before .before .before .before .before .before .before .before .before .before .before .before)) (c .before .before .before .before .before .list .ensures),
+      listed (ws s) (s .args .k) _ _ _ (a .ok) (f .count) (f .costs-are) (f .plans-are),
     )
 
 same-length : tie.Need-same-length
 same-length c = search needs
 
-returns-4 : tie.Need-returns-4
-returns-4 c = search needs
+returns-2 : tie.Need-returns-2
+returns-2 c = search needs
 
 pub write-spec : {M : Type 1} → statement M
 write-spec =
     tie.close
     (tie.spec
-    check-requires
+    asked-number-requires
     returns
-    returns-2
-    returns-3
     read-sizes-requires
     no-costs-requires
     no-plans-requires
@@ -109,4 +85,4 @@ write-spec =
     slice-aggregate-write-list-2
     write-list-requires
     same-length
-    returns-4)
+    returns-2)

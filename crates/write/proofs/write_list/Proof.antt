@@ -17,10 +17,10 @@ ws s = s .args .b .now
 
 long-is : (s : tie.Start) → 12 + 4 * length (s .args .b .now) + 8 * s .args .n + s .args .n * s .args .s ≡ length (recordBytes (ws s) (s .args .k))
 long-is s =
-    ap₂ (λ (n p : ℕ). 12 + 4 * length (s .args .b .now) + 8 * n + n * p) (s .pre .4 .count) (s .pre .1) ∙ sym (record-length (ws s) (s .args .k) (s .pre .0))
+    ap₂ (λ (n p : ℕ). 12 + 4 * length (s .args .b .now) + 8 * n + n * p) (s .pre .2 .count) (s .pre .1) ∙ sym (record-length (ws s) (s .args .k) (s .pre .0 .ok))
 
 most : (s : tie.Start) → length (recordBytes (ws s) (s .args .k)) ≤ 21308
-most s = record-most (ws s) (s .args .k) (s .pre .0) (s .pre .3)
+most s = record-most (ws s) (s .args .k) (s .pre .0 .ok) (s .pre .0 .high)
 
 mul-long : tie.Need-mul-long
 mul-long c = omega (arith, long-is (c .before .before), most (c .before .before))
@@ -43,12 +43,12 @@ add-long-3 c = omega (arith, long-is (c .before .before), most (c .before .befor
 returns : tie.Need-returns
 returns c =
     let s = c .before .before .before in
-    refuses (ws s) (s .args .k) (s .args .out .now) 18 (room-no (ws s) (s .args .k) (s .args .out .now) (s .pre .0) (s .pre .2) (s .pre .3) (omega (arith, c .if1 .taken, long-is s))) (λ z. omega arith)
+    refuses (ws s) (s .args .k) (s .args .out .now) 18 (room-no (ws s) (s .args .k) (s .args .out .now) (s .pre .0) (omega (arith, c .if1 .taken, long-is s))) (λ z. omega arith)
 
 put-record-requires : tie.Need-put-record-requires
 put-record-requires c κs =
     let s = c .before .before .before .before in
-    (s .pre .0, s .pre .1, s .pre .2, s .pre .3, s .pre .4, omega (arith, long-is s))
+    (s .pre .0, s .pre .1, s .pre .2, omega (arith, long-is s))
 
 same-length : tie.Need-same-length
 same-length c = search needs
@@ -56,7 +56,7 @@ same-length c = search needs
 returns-2 : tie.Need-returns-2
 returns-2 c =
     let s = c .before .before .before .before .before .before .before in
-    writes (ws s) (s .args .k) (s .args .out .now) (s .pre .0) (s .pre .2) (s .pre .3) _ (long-is s) (omega (arith, long-is s)) (c .before .before .put-record .ensures)
+    writes (ws s) (s .args .k) (s .args .out .now) (s .pre .0) _ (long-is s) (omega (arith, long-is s)) (c .before .before .put-record .ensures)
 
 pub write-list-spec : {M : Type 1} → statement M
 write-list-spec =

@@ -1,0 +1,76 @@
+// Accepting a record: the questions 19, 1 to 14, 20 and 21 for any bytes; and showing one policy of a record.
+ghost use mathlib.Core.Path.{_≡_};
+ghost use Rattle.model.specs.Model.{stateCount};
+ghost use Rattle.model.specs.Questions.{firstNo};
+ghost use Rattle.model.specs.Record.{carriedK, carriedBook, headQuestions, tailQuestions, acceptNumber};
+ghost use Rattle.model.specs.Calls.{acceptStates, acceptCount, shown};
+ghost use Rattle.asked.specs.Asked.{Asked};
+
+// The number of the first question that is answered no, or 0; how many states the book has and how many policies are listed, both 0 where the record is refused.
+pub struct Accepted {
+    pub no: u32,
+    pub s: usize,
+    pub k: usize,
+}
+
+// 20 and 21: the policies of the carried book b are ranked, and the list is compared.
+fn list_number(r: &[u8], b: &[i32], k: usize, s: usize) -> u32
+    requires { ⌜ (firstNo headQuestions (now r) ≡ 0) × (now b ≡ carriedBook (now r)) × (k ≡ carriedK (now r)) × (s ≡ stateCount (carriedBook (now r))) × Asked (carriedBook (now r)) (carriedK (now r)) ⌝ }
+    ensures { λ x. ⌜ x ≡ firstNo tailQuestions (now (r .entry)) ⌝ }
+{
+    let mut costs = record::no_costs();
+    let mut plans = record::no_plans();
+    let n = engine::list(b, k, &mut costs, &mut plans);
+    record::tail_number(r, s, n, &costs, &plans)
+}
+
+// All that is asked after 19, of the carried book b.
+fn accept_book(r: &[u8], b: &[i32]) -> Accepted
+    requires { ⌜ (firstNo headQuestions (now r) ≡ 0) × (now b ≡ carriedBook (now r)) ⌝ }
+    ensures { λ a. ⌜ (a .no ≡ acceptNumber (now (r .entry))) × (a .s ≡ acceptStates (now (r .entry))) × (a .k ≡ acceptCount (now (r .entry))) ⌝ }
+{
+    let k = record::carried_k(r);
+    let no = asked::asked_number(b, k);
+    if no != 0 {
+        return Accepted { no: no, s: 0, k: 0 };
+    }
+    let z = book::read_sizes(b);
+    let last = list_number(r, b, k, z.s);
+    if last != 0 {
+        return Accepted {
+            no: last,
+            s: 0,
+            k: 0,
+        };
+    }
+    Accepted {
+        no: 0,
+        s: z.s,
+        k: record::carried_count(r),
+    }
+}
+
+// Any bytes: are they the record that is written for the book and the count they carry?
+pub fn accept(r: &[u8]) -> Accepted
+    ensures { λ a. ⌜ (a .no ≡ acceptNumber (now (r .entry))) × (a .s ≡ acceptStates (now (r .entry))) × (a .k ≡ acceptCount (now (r .entry))) ⌝ }
+{
+    let no = record::head_number(r);
+    if no != 0 {
+        return Accepted { no: no, s: 0, k: 0 };
+    }
+    let mut words = record::no_book();
+    record::read_book(r, &mut words);
+    let w = record::carried_length(r);
+    accept_book(r, &words[0..w])
+}
+
+// The bytes of policy j, a part of the record; an empty part where the record is not accepted or has no such policy.
+pub fn show(r: &[u8], j: usize) -> &[u8]
+    ensures { λ p. ⌜ now p ≡ shown (now (r .entry)) j ⌝ }
+{
+    let a = accept(r);
+    if a.no != 0 {
+        return &r[0..0];
+    }
+    record::shown_part(r, a.s, a.k, j)
+}
