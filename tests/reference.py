@@ -1,0 +1,263 @@
+"""The rules of document 01, word by word and without any search: plans and days are enumerated.
+
+Written from the document alone. It shares nothing with the proved program, and is slow on purpose: every plan of the book is listed, every day
+of every plan is walked. Words below are those of the document.
+"""
+
+LONGEST_BOOK = 4172
+
+
+class Book:
+    """A book whose questions 1 to 9 are passed, taken apart: choices[post] is a list of (cost, [(next post within its stage, weight)])."""
+
+    def __init__(self, words):
+        self.scale, self.stages, self.lines = words[0], words[1], words[2]
+        at = 3
+        self.sizes = words[at:at + self.stages + 1]
+        at += self.stages + 1
+        self.posts = sum(self.sizes)
+        self.counts = words[at:at + self.posts]
+        at += self.posts
+        left, right = words[at:at + self.lines], words[at + self.lines:at + 2 * self.lines]
+        self.first = [sum(self.sizes[:n]) for n in range(self.stages + 1)]
+        self.stage = [n for n in range(self.stages + 1) for _ in range(self.sizes[n])]
+        self.choices = []
+        line = 0
+        for post in range(self.posts):
+            here = []
+            for _ in range(self.counts[post]):
+                r, cost = left[line], right[line]
+                here.append((cost, [(left[line + i], right[line + i]) for i in range(1, r + 1)]))
+                line += 1 + r
+            self.choices.append(here)
+
+    def next_posts(self, post, choice):
+        start = self.first[self.stage[post] + 1] if self.stage[post] < self.stages else 0
+        return [(start + step, weight) for step, weight in self.choices[post][choice][1]]
+
+
+def lines_fit(words):
+    """Question 9: every r as allowed, all lines fit, exactly L used."""
+    stages, lines = words[1], words[2]
+    sizes = words[3:4 + stages]
+    posts = sum(sizes)
+    counts = words[4 + stages:4 + stages + posts]
+    left = words[4 + stages + posts:4 + stages + posts + lines]
+    last = posts - sizes[stages]
+    line = 0
+    for post in range(posts):
+        for _ in range(counts[post]):
+            if line >= lines:
+                return False
+            r = left[line]
+            if post >= last and r != 0:
+                return False
+            if post < last and not 1 <= r <= 16:
+                return False
+            line += 1 + r
+            if line > lines:
+                return False
+    return line == lines
+
+
+def check(words):
+    """The number of the first question of a book that is answered no, or 0."""
+    if len(words) < 3:
+        return 1
+    if not 1 <= words[0] <= 100:
+        return 2
+    stages, lines = words[1], words[2]
+    if not 1 <= stages <= 8:
+        return 3
+    if not 1 <= lines <= 2048:
+        return 4
+    if len(words) < 4 + stages:
+        return 5
+    sizes = words[3:4 + stages]
+    if sizes[0] != 1 or any(not 1 <= n <= 16 for n in sizes[1:]) or sum(sizes) > 64:
+        return 6
+    posts = sum(sizes)
+    if len(words) != 4 + stages + posts + 2 * lines:
+        return 7
+    counts = words[4 + stages:4 + stages + posts]
+    if any(not 1 <= n <= 8 for n in counts) or any(n != 1 for n in counts[posts - sizes[stages]:]):
+        return 8
+    if not lines_fit(words):
+        return 9
+    book = Book(words)
+    every = [(post, choice) for post in range(posts) for choice in book.choices[post]]
+    if any(not -100000 <= cost <= 100000 for _, (cost, _) in every):
+        return 10
+    for post, (_, nexts) in every:
+        steps = [step for step, _ in nexts]
+        if nexts and any(not 0 <= step < sizes[book.stage[post] + 1] for step in steps):
+            return 11
+        if any(b <= a for a, b in zip(steps, steps[1:])):
+            return 11
+    for post, (_, nexts) in every:
+        if any(not 1 <= weight <= book.scale for _, weight in nexts):
+            return 12
+        if book.stage[post] < stages and sum(weight for _, weight in nexts) != book.scale:
+            return 12
+    largest = max(abs(cost) for _, (cost, _) in every)
+    if book.scale ** stages * (stages + 1) * largest > 4 * 10 ** 18:
+        return 13
+    return 0
+
+
+def plans(book):
+    """All plans: post 0 is reached; if a post is reached, so are all next posts of its chosen choice."""
+    def grow(post, chosen, reached):
+        if post == book.posts:
+            yield tuple(chosen)
+        elif post not in reached:
+            yield from grow(post + 1, chosen + [255], reached)
+        else:
+            for choice in range(book.counts[post]):
+                more = {step for step, _ in book.next_posts(post, choice)}
+                yield from grow(post + 1, chosen + [choice], reached | more)
+    return grow(0, [], {0})
+
+
+def days(book, plan):
+    """All days of a plan, each as (weight, cost): one post per stage, from post 0."""
+    def walk(post, weight, cost):
+        cost += book.choices[post][plan[post]][0]
+        if book.stage[post] == book.stages:
+            yield weight, cost
+        for step, part in book.next_posts(post, plan[post]):
+            yield from walk(step, weight * part, cost)
+    return walk(0, 1, 0)
+
+
+def plan_cost(book, plan):
+    return sum(weight * cost for weight, cost in days(book, plan))
+
+
+def is_plan(book, slice_):
+    return any(tuple(slice_) == plan for plan in plans(book))
+
+
+def before(book, p, q):
+    """P comes before Q: lower cost, or equal with the lower choice at the first post where they differ."""
+    cp, cq = plan_cost(book, p), plan_cost(book, q)
+    if cp != cq:
+        return cp < cq
+    for a, b in zip(p, q):
+        if a != b:
+            return a < b
+    return False
+
+
+def ranking(words, k):
+    """The list for a book that passes 1 to 13: (cost, plan) for each plan that fewer than k come before."""
+    book = Book(words)
+    return sorted((plan_cost(book, plan), plan) for plan in plans(book))[:k]
+
+
+def count_no(k):
+    return 0 if 1 <= k <= 64 else 14
+
+
+# ---- the calls: each gives its number first
+
+def value(words, slice_):
+    no = check(words)
+    if no:
+        return no, 0
+    if not is_plan(Book(words), slice_):
+        return 17, 0
+    return 0, plan_cost(Book(words), tuple(slice_))
+
+
+def least(words):
+    no = check(words)
+    return (no, 0) if no else (0, ranking(words, 1)[0][0])
+
+
+def rank(words, k, costs, slots):
+    """Two lists that stand for the lent slices are changed in place."""
+    no = check(words) or count_no(k)
+    if no:
+        return no, 0
+    posts = Book(words).posts
+    if len(costs) < k:
+        return 15, 0
+    if len(slots) < k * posts:
+        return 16, 0
+    best = ranking(words, k)
+    for j, (cost, plan) in enumerate(best):
+        costs[j] = cost
+        slots[j * posts:(j + 1) * posts] = plan
+    return 0, len(best)
+
+
+def record(words, k):
+    best = ranking(words, k)
+    out = b''.join(n.to_bytes(4, 'little') for n in (len(words), k, len(best)))
+    out += b''.join(w.to_bytes(4, 'little', signed=True) for w in words)
+    out += b''.join(cost.to_bytes(8, 'little', signed=True) for cost, _ in best)
+    return out + b''.join(bytes(plan) for _, plan in best)
+
+
+def write(words, k, lent):
+    no = check(words) or count_no(k)
+    if no:
+        return no, 0
+    out = record(words, k)
+    if len(lent) < len(out):
+        return 18, 0
+    lent[:len(out)] = out
+    return 0, len(out)
+
+
+def words_of(data):
+    return [int.from_bytes(data[i:i + 4], 'little', signed=True) for i in range(0, len(data) - 3, 4)]
+
+
+def accept(data):
+    """(number, S, k)"""
+    data = bytes(data)
+    if len(data) < 12:
+        return 19, 0, 0
+    w, most, k = (int.from_bytes(data[i:i + 4], 'little') for i in (0, 4, 8))
+    if w > LONGEST_BOOK or len(data) < 12 + 4 * w:
+        return 19, 0, 0
+    words = words_of(data[12:12 + 4 * w])
+    no = check(words) or count_no(most)
+    if no:
+        return no, 0, 0
+    posts = Book(words).posts
+    if not 1 <= k <= most or len(data) != 12 + 4 * w + 8 * k + k * posts:
+        return 20, 0, 0
+    best = ranking(words, most)
+    costs = b''.join(cost.to_bytes(8, 'little', signed=True) for cost, _ in best)
+    listed = b''.join(bytes(plan) for _, plan in best)
+    if k != len(best) or data[12 + 4 * w:] != costs + listed:
+        return 21, 0, 0
+    return 0, posts, k
+
+
+def show(data, j):
+    data = bytes(data)
+    no, posts, k = accept(data)
+    if no or j >= k:
+        return b''
+    at = 12 + 4 * int.from_bytes(data[:4], 'little') + 8 * k + j * posts
+    return data[at:at + posts]
+
+
+def page(data):
+    """Standard input to the printed page, both as bytes."""
+    data = data[:16696]
+    if len(data) < 4 or len(data) % 4:
+        return b'refused 1\n'
+    k, words = int.from_bytes(data[:4], 'little'), words_of(data[4:])
+    no = check(words) or count_no(k)
+    if no:
+        return b'refused %d\n' % no
+    book, best = Book(words), ranking(words, k)
+    out = ['%d of %d, scale %d' % (len(best), k, book.scale ** book.stages)]
+    for j, (cost, plan) in enumerate(best):
+        out.append(' '.join(str(x) for x in (j + 1, cost)) + ''.join(' -' if c == 255 else ' %d' % c for c in plan))
+    return ('\n'.join(out) + '\n').encode()
