@@ -20,7 +20,7 @@ digits zero n = []
 digits (suc f) n = cond (ltb n 10) ((48 + n) ∷ []) (digits f (n / 10) ++ ((48 + n % 10) ∷ []))
 
 -- every number that is printed is below 10^20
-abbrev pub decimal : ℕ → List ℕ
+unfoldable pub decimal : ℕ → List ℕ
 decimal n = digits 20 n
 
 abbrev pub signedDecimal : ℤ → List ℕ
