@@ -32,7 +32,7 @@ at-low (y ∷ ys) zero x e = omega arith
 at-low (y ∷ ys) (suc j) x e = omega (arith, at-low ys j x e)
 
 -- of parts of n bytes each, one after the other, part j
-part-at : {A : Type 0} (f : A → List ℕ) (n j : ℕ) (xs : List A) (a : A) (rest : List ℕ) → Every (λ x. length (f x) ≡ n) xs → getElem? xs j ≡ some a
+pub part-at : {A : Type 0} (f : A → List ℕ) (n j : ℕ) (xs : List A) (a : A) (rest : List ℕ) → Every (λ x. length (f x) ≡ n) xs → getElem? xs j ≡ some a
     → take n (drop (j * n) (forEach f xs ++ rest)) ≡ f a
 part-at f n j [] a rest h e = absurd (at-in [] j a e)
 part-at f n zero (x ∷ xs) a rest h e =
@@ -62,7 +62,7 @@ module _ (ws : Words) (ok : bookNumber ws ≡ 0) (k : ℕ) where
       ∙ ap (drop m) (ap (drop (12 + 4 * length ws)) (record-is ws k)
       ∙ drop-at (headBytes ws k (length (ranking ws k))) (listBytes ws k) (12 + 4 * length ws) (head-length ws k (length (ranking ws k))))
 
-  wide : Every (λ (bs : Policy). length bs ≡ stateCount ws) (ranking ws k)
+  pub wide : Every (λ (bs : Policy). length bs ≡ stateCount ws) (ranking ws k)
   wide = in-every (λ (bs : Policy). length bs ≡ stateCount ws) (ranking ws k) (λ bs i. policy-bytes ws ok bs .0 (in-list ws ok k bs .0 i .0) .long)
 
   pub plan-bytes : (j : ℕ) (bs : Policy) → getElem? (ranking ws k) j ≡ some bs → planIn (length (ranking ws k)) j (recordBytes ws k) ≡ bs

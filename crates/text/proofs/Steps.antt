@@ -3,11 +3,10 @@
 use mathlib.Core.Path.{_≡_, refl, sym, ap, _∙_, subst}
 use mathlib.Core.Bool.{true, false}
 use mathlib.Core.List.{List, [], _∷_, _++_, append-nil, append-assoc}
-use Prim.Native.Nat.{ℕ, suc, _+_, _*_, _-_, _≤_, _<_}
+use Prim.Native.Nat.{ℕ, _+_, _-_, _≤_, _<_}
 use native.Mathlib.Numerals.{add-one}
 use native.Mathlib.Omega.{arith}
 use borrow.Author.Tests.{ltb-true, ne-eqb}
-use lib.Dec.{eqb}
 use lib.IntN.{ℤ, pos, negsuc, natAbs}
 use lib.Signed.{ltZ}
 use lib.ListN.{length, take, getD, set}
@@ -18,7 +17,7 @@ use Rattle.io.specs.Digits.{digits as spelt, Fewest}
 use Rattle.bytes_io.specs.Slices.{written}
 use Rattle.bytes_io.proofs.Parts.{written-none, set-written}
 use Rattle.text.proofs.Digits.{spelled}
-use Rattle.text.specs.Text.{Appended, joined, choices-long}
+use Rattle.text.specs.Text.{Appended}
 
 pub nothing : (o : List ℕ) (at : ℕ) → Appended o at [] o at
 nothing o at = record { end = omega arith; text = sym (written-none o at) }

@@ -1,6 +1,5 @@
 -- The five texts of a line, one after another.
 -- Assumes nothing.
-use mathlib.Core.Path.{_≡_}
 use native.Mathlib.Omega.{arith}
 use mir.Facts.{toZ-ofZ}
 use Rattle.model.specs.Page.{signedDecimal}

@@ -1,15 +1,15 @@
 -- The sign, then the number without it.
 -- Assumes nothing.
-use mathlib.Core.Path.{_≡_, sym, _∙_, ap, subst}
+use mathlib.Core.Path.{_≡_, sym, _∙_, ap}
 use mathlib.Core.Bool.{true, false}
-use mathlib.Core.List.{List, [], _∷_, _++_}
+use mathlib.Core.List.{[], _∷_, _++_}
 use Prim.Native.Nat.{ℕ}
 use native.Mathlib.Omega.{arith}
 use lib.IntN.{pos, natAbs}
 use lib.Signed.{ltZ}
 use mir.Facts.{toZ-ofZ}
 use Rattle.model.specs.Page.{decimal}
-use Rattle.text.specs.Text.{Appended, joined}
+use Rattle.text.specs.Text.{joined}
 use Rattle.text.proofs.Steps.{below-zero, not-below, spoken}
 use borrow.Author.Needs.{needs}
 use Rattle.text.proofs.put_signed.Statement.{statement}

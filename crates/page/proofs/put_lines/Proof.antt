@@ -1,0 +1,121 @@
+-- The lines before policy j are written.
+-- Assumes nothing.
+use mathlib.Core.Path.{_≡_, refl, _∙_}
+use Prim.Native.Nat.{_+_, _*_, _-_, _≤_}
+use native.Mathlib.Omega.{arith}
+use lib.IntN.{pos}
+use lib.ListN.{length, getD}
+use mir.Facts.{toZ-ofZ}
+use mir.Syntax.{w64}
+use mir.Val.{SFits}
+use Rattle.text.specs.Text.{Appended, lineText}
+use Rattle.text.proofs.Steps.{nothing}
+use Rattle.page.proofs.Part.{within, part, part-long, next-end, next-line}
+use Rattle.page.specs.Lines.{arrayLines}
+use borrow.Author.Needs.{needs}
+use Rattle.page.proofs.put_lines.Statement.{statement}
+use Rattle.page.proofs.put_lines.Tie as tie
+
+abbrev Inv-loop : tie.InvT-loop
+Inv-loop out₀ at n s costs plans p₀ j₀ out p j =
+    (j ≤ n) × (length out ≡ length out₀) × (p + 1387 * (n - j) ≤ length out) × Appended out₀ at (arrayLines s costs plans j) out p
+
+abbrev μ-loop : tie.MeasureT-loop
+μ-loop out₀ at n s costs plans p₀ j₀ out p j = n - j
+
+module _ (c : tie.In-loop Inv-loop μ-loop) where
+  fits : c .before .loop .j * c .before .before .before .before .args .s + c .before .before .before .before .args .s ≤ length (c .before .before .before .before .args .plans .now)
+  fits =
+      let s = c .before .before .before .before in
+      omega (arith, within (c .before .loop .j) (s .args .n) (s .args .s) (omega arith), s .pre .2)
+
+loop-holds : tie.Need-loop-holds Inv-loop μ-loop
+loop-holds c =
+    let s = c .before .before in
+    (omega arith, refl, omega (arith, s .pre .3), nothing (s .args .out .now) (s .args .at))
+
+mul-from : tie.Need-mul-from Inv-loop μ-loop
+mul-from c = omega (arith, fits c)
+
+add-to : tie.Need-add-to Inv-loop μ-loop
+add-to c = omega (arith, fits c)
+
+add-put-line : tie.Need-add-put-line Inv-loop μ-loop
+add-put-line c = search needs
+
+mul-cost : tie.Need-mul-cost Inv-loop μ-loop
+mul-cost c = search needs
+
+shared-slice-copy-out-cost : tie.Need-shared-slice-copy-out-cost Inv-loop μ-loop
+shared-slice-copy-out-cost c = search needs
+
+sub-put-line : tie.Need-sub-put-line Inv-loop μ-loop
+sub-put-line c = search needs
+
+part-put-line-start : tie.Need-part-put-line-start Inv-loop μ-loop
+part-put-line-start c = search needs
+
+part-put-line-end : tie.Need-part-put-line-end Inv-loop μ-loop
+part-put-line-end c = omega (arith, fits (c .before .before))
+
+put-line-requires : tie.Need-put-line-requires Inv-loop μ-loop
+put-line-requires c κs =
+    let i = c .before .before .before in
+    let l = i .before .loop in
+    let a = i .before .before .before .before .args in
+    let s = i .before .before .before .before in
+    omega (arith, part-long (a .costs .now) (a .plans .now) (a .s) (l .j) (fits i), s .pre .0, l .inv .2)
+
+add-j : tie.Need-add-j Inv-loop μ-loop
+add-j c = search needs
+
+loop-less : tie.Need-loop-less Inv-loop μ-loop
+loop-less c = search needs
+
+loop-again : tie.Need-loop-again Inv-loop μ-loop
+loop-again c =
+    let y = c .before .before .put-line in
+    let i = c .before .before .before .before .before .before in
+    let l = i .before .loop in
+    let s = i .before .before .before .before in
+    let a = s .args in
+    let z = getD (a .costs .now) (l .j) (pos 0) in
+    let f : SFits w64 z = record { sfits = c .before .before .before .before .before .cost .given } in
+    let t : Appended (l .out) (l .p) (lineText (l .j + 1) z (part (a .costs .now) (a .plans .now) (a .s) (l .j) (fits i))) (y .last .0) (y .result) = rw (toZ-ofZ f) at (y .ensures) in (
+      omega arith,
+      y .kept .0 ∙ l .inv .1,
+      omega (arith, next-end (a .costs .now) (a .plans .now) (a .s) (l .j) (fits i) (s .pre .0) (l .inv .3) t, l .inv .2, y .kept .0),
+      next-line (a .costs .now) (a .plans .now) (a .s) (l .j) (fits i) (s .pre .0) (l .inv .3) t (omega (arith, l .inv .2, l .inv .1)),
+    )
+
+same-length : tie.Need-same-length Inv-loop μ-loop
+same-length c = search needs
+
+returns : tie.Need-returns Inv-loop μ-loop
+returns c =
+    let l = c .before .loop in
+    let s = c .before .before .before .before in
+    let e : l .j ≡ s .args .n = omega arith in
+    rw (← e) (l .inv .3)
+
+pub put-lines-spec : {M : Type 1} → statement M
+put-lines-spec =
+    tie.close
+    (tie.spec
+    Inv-loop
+    μ-loop
+    loop-holds
+    mul-from
+    add-to
+    mul-cost
+    shared-slice-copy-out-cost
+    add-put-line
+    sub-put-line
+    part-put-line-start
+    part-put-line-end
+    put-line-requires
+    add-j
+    loop-less
+    loop-again
+    same-length
+    returns)
