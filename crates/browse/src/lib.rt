@@ -1,0 +1,73 @@
+// Browsing: one record's bytes along with its S and k, carried from policy to policy.
+ghost use mathlib.Core.Path.{_≡_};
+ghost use Rattle.model.specs.Calls.{acceptStates, acceptCount, shown};
+ghost use Rattle.browse.specs.Browsed.{browsed};
+
+// The bytes r of a record, how many states its book has and how many policies it lists, both 0 unless it is accepted.
+pub struct Browser<'a> {
+    pub record: &'a [u8],
+    pub s: usize,
+    pub k: usize,
+}
+
+// Policy j of bytes that are said to list k policies of s bytes: a part of them, empty where there is no such part.
+pub fn part(r: &[u8], s: usize, k: usize, j: usize) -> &[u8]
+    ensures { λ p. ⌜ now p ≡ browsed (now (r .entry)) s k j ⌝ }
+{
+    if k <= j {
+        return &r[0..0];
+    }
+    if 64 < k {
+        return &r[0..0];
+    }
+    if 64 < s {
+        return &r[0..0];
+    }
+    if r.len() < 12 {
+        return &r[0..0];
+    }
+    let from = 12 + 4 * record::carried_length(r) + 8 * k + j * s;
+    let to = from + s;
+    if r.len() < to {
+        return &r[0..0];
+    }
+    &r[from..to]
+}
+
+// The record is asked once; what it answers is kept beside its bytes.
+pub fn open<'a>(r: &'a [u8]) -> Browser<'a>
+    ensures { λ w. ⌜ (w .record ≡ r .entry) × (w .s ≡ acceptStates (now (r .entry))) × (w .k ≡ acceptCount (now (r .entry))) ⌝ }
+{
+    let a = accept::accept(r);
+    Browser {
+        record: r,
+        s: a.s,
+        k: a.k,
+    }
+}
+
+pub fn states<'a>(w: Browser<'a>) -> usize
+    ensures { λ n. ⌜ n ≡ w .entry .s ⌝ }
+{
+    w.s
+}
+
+pub fn count<'a>(w: Browser<'a>) -> usize
+    ensures { λ n. ⌜ n ≡ w .entry .k ⌝ }
+{
+    w.k
+}
+
+// Policy j of any browser, one that `open` did not make too.
+pub fn plan<'a>(w: Browser<'a>, j: usize) -> &'a [u8]
+    ensures { λ p. ⌜ now p ≡ browsed (now (w .entry .record)) (w .entry .s) (w .entry .k) j ⌝ }
+{
+    part(w.record, w.s, w.k, j)
+}
+
+// A browser is opened and policy j is shown.
+pub fn browse(r: &[u8], j: usize) -> &[u8]
+    ensures { λ p. ⌜ now p ≡ shown (now (r .entry)) j ⌝ }
+{
+    plan(open(r), j)
+}
