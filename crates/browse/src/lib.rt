@@ -3,14 +3,14 @@ ghost use mathlib.Core.Path.{_≡_};
 ghost use Rattle.model.specs.Calls.{acceptStates, acceptCount, shown};
 ghost use Rattle.browse.specs.Browsed.{browsed};
 
-// The bytes r of a record, how many states its book has and how many policies it lists, both 0 unless it is accepted.
+// The bytes of a record, how many states its book has (s) and how many policies it lists (k). `open` gives both as 0 unless the record is accepted.
 pub struct Browser<'a> {
     pub record: &'a [u8],
     pub s: usize,
     pub k: usize,
 }
 
-// Policy j of bytes that are said to list k policies of s bytes: a part of them, empty where there is no such part.
+// Policy j of bytes that are said to list k policies of s bytes: a part of them, empty where no record has such figures or the part is not there.
 pub fn part(r: &[u8], s: usize, k: usize, j: usize) -> &[u8]
     ensures { λ p. ⌜ now p ≡ browsed (now (r .entry)) s k j ⌝ }
 {
@@ -34,7 +34,7 @@ pub fn part(r: &[u8], s: usize, k: usize, j: usize) -> &[u8]
     &r[from..to]
 }
 
-// The record is asked once; what it answers is kept beside its bytes.
+// The record is accepted or refused once, and its bytes are kept with the two figures, so that no policy asks for that again.
 pub fn open<'a>(r: &'a [u8]) -> Browser<'a>
     ensures { λ w. ⌜ (w .record ≡ r .entry) × (w .s ≡ acceptStates (now (r .entry))) × (w .k ≡ acceptCount (now (r .entry))) ⌝ }
 {
@@ -46,26 +46,28 @@ pub fn open<'a>(r: &'a [u8]) -> Browser<'a>
     }
 }
 
+// How many states the record's book has.
 pub fn states<'a>(w: Browser<'a>) -> usize
     ensures { λ n. ⌜ n ≡ w .entry .s ⌝ }
 {
     w.s
 }
 
+// How many policies the record lists.
 pub fn count<'a>(w: Browser<'a>) -> usize
     ensures { λ n. ⌜ n ≡ w .entry .k ⌝ }
 {
     w.k
 }
 
-// Policy j of any browser, one that `open` did not make too.
+// Policy j of any browser, also of one that `open` did not make.
 pub fn plan<'a>(w: Browser<'a>, j: usize) -> &'a [u8]
     ensures { λ p. ⌜ now p ≡ browsed (now (w .entry .record)) (w .entry .s) (w .entry .k) j ⌝ }
 {
     part(w.record, w.s, w.k, j)
 }
 
-// A browser is opened and policy j is shown.
+// Policy j of any bytes, through a browser. Its parameters are plain, so its callers need no walk by hand.
 pub fn browse(r: &[u8], j: usize) -> &[u8]
     ensures { λ p. ⌜ now p ≡ shown (now (r .entry)) j ⌝ }
 {

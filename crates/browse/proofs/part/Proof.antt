@@ -3,7 +3,6 @@
 use Prim.Native.Nat.{ℕ, _+_, _*_, _≤_, _<_}
 use native.Mathlib.Nat.{add-sub-cancel-left, mul-le-mul}
 use native.Mathlib.Omega.{arith}
-use lib.ListN.{length}
 use Rattle.browse.specs.Browsed.{none-such, many, wide, short, outside, inside}
 use borrow.Author.Needs.{needs}
 use Rattle.browse.proofs.part.Statement.{statement}
