@@ -46,14 +46,14 @@ pub fn open<'a>(r: &'a [u8]) -> Browser<'a>
     }
 }
 
-// How many states the record's book has.
+// S: how many bytes each policy has.
 pub fn states<'a>(w: Browser<'a>) -> usize
     ensures { λ n. ⌜ n ≡ w .entry .s ⌝ }
 {
     w.s
 }
 
-// How many policies the record lists.
+// k: how many policies there are to browse.
 pub fn count<'a>(w: Browser<'a>) -> usize
     ensures { λ n. ⌜ n ≡ w .entry .k ⌝ }
 {
