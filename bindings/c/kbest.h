@@ -10,7 +10,7 @@
  *
  * The caller sees to it that each pointer is not null, is aligned for its type and points to as many elements as are said (for a length of 0 to
  * any place), and that no array or figure that is written overlaps another argument. No call keeps a pointer, allocates memory, reads or writes
- * anything but its arguments, or waits; calls from several threads do not disturb each other. A call takes less than 64 kB of stack. */
+ * anything but its arguments, or waits; calls from several threads do not disturb each other. A call takes less than 128 kB of stack. */
 #ifndef KBEST_H
 #define KBEST_H
 
