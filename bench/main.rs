@@ -236,7 +236,7 @@ fn ratios(name: &str, book: &[i32]) {
     let record = &a.record[..length];
     let accept = ratio(|| kbest::accept(black_box(record)), || baseline::accept(black_box(record)));
     println!(
-        "{name:24} {check:7.2} {least:7.2} {:8.2} {:8.2} {:8.2} {write:8.2} {accept:8.2}",
+        "{name:28} {check:7.2} {least:7.2} {:8.2} {:8.2} {:8.2} {write:8.2} {accept:8.2}",
         ranks[0], ranks[1], ranks[2]
     );
 }
@@ -266,7 +266,7 @@ fn growth_with_lines(books: &[(usize, Vec<i32>)]) {
     }
 }
 
-/// Books of 64 posts with few to many lines: 1 choice of 1 transition up to 8 choices of 3 or 4.
+/// Books of 64 posts with few to many lines: from 2 choices of 1 transition to 8 choices of 3.
 fn books_by_lines(rng: &mut Random) -> Vec<(usize, Vec<i32>)> {
     let shapes: [(i32, i32); 4] = [(2, 1), (3, 2), (5, 3), (8, 3)];
     shapes
@@ -317,7 +317,7 @@ fn main() {
     println!("equal results on the timed books and {} small ones\n", assert_small_books(&mut rng));
 
     println!("library time / Rust time");
-    println!("{:24} {:>7} {:>7} {:>8} {:>8} {:>8} {:>8} {:>8}", "", "check", "least", "rank 1", "rank 8", "rank 64", "write 64", "accept");
+    println!("{:28} {:>7} {:>7} {:>8} {:>8} {:>8} {:>8} {:>8}", "", "check", "least", "rank 1", "rank 8", "rank 64", "write 64", "accept");
     for (name, book) in &books {
         ratios(&format!("{name}, {} lines", book[2]), book);
     }
