@@ -1,0 +1,428 @@
+//! The same calls by an independent implementation: the K-best method with document 01's order, written for speed in safe code.
+//! It shares nothing with the library that it is compared with.
+
+const POSTS: usize = 64;
+const CHOICES: usize = 8;
+const PLANS: usize = 64;
+const NOT_REACHED: u8 = 255;
+
+/// The columns of a book whose questions 1 to 7 are passed.
+struct Book<'a> {
+    d: usize,
+    h: usize,
+    s: usize,
+    sizes: &'a [i32],
+    counts: &'a [i32],
+    left: &'a [i32],
+    right: &'a [i32],
+}
+
+impl<'a> Book<'a> {
+    fn read(words: &'a [i32]) -> Result<Book<'a>, u32> {
+        let [d, h, l, rest @ ..] = words else { return Err(1) };
+        if !(1..=100).contains(d) {
+            return Err(2);
+        }
+        if !(1..=8).contains(h) {
+            return Err(3);
+        }
+        if !(1..=2048).contains(l) {
+            return Err(4);
+        }
+        let (h, l) = (*h as usize, *l as usize);
+        if rest.len() < h + 1 {
+            return Err(5);
+        }
+        let (sizes, rest) = rest.split_at(h + 1);
+        if sizes[0] != 1 || sizes[1..].iter().any(|n| !(1..=16).contains(n)) {
+            return Err(6);
+        }
+        let s = sizes.iter().sum::<i32>() as usize;
+        if s > POSTS {
+            return Err(6);
+        }
+        if rest.len() != s + 2 * l {
+            return Err(7);
+        }
+        let (counts, columns) = rest.split_at(s);
+        let (left, right) = columns.split_at(l);
+        Ok(Book { d: *d as usize, h, s, sizes, counts, left, right })
+    }
+
+    /// Questions 8 to 13.
+    fn check(&self) -> u32 {
+        let closing = self.s - self.sizes[self.h] as usize;
+        if self.counts[..closing].iter().any(|n| !(1..=8).contains(n)) || self.counts[closing..].iter().any(|&n| n != 1) {
+            return 8;
+        }
+        let (mut lowest, mut largest, mut line, mut post) = (u32::MAX, 0, 0, 0);
+        for (stage, &size) in self.sizes.iter().enumerate() {
+            let next_size = self.sizes.get(stage + 1).copied().unwrap_or(0);
+            for _ in 0..size {
+                for _ in 0..self.counts[post] {
+                    let Some(&r) = self.left.get(line) else { return 9 };
+                    let allowed = if stage == self.h { r == 0 } else { (1..=16).contains(&r) };
+                    let end = line + 1 + r as usize;
+                    if !allowed || end > self.left.len() {
+                        return 9;
+                    }
+                    let cost = self.right[line];
+                    if !(-100_000..=100_000).contains(&cost) {
+                        lowest = 10;
+                    } else {
+                        largest = largest.max(cost.unsigned_abs());
+                    }
+                    let no = self.lines_number(line + 1, end, next_size);
+                    if no != 0 && no < lowest {
+                        lowest = no;
+                    }
+                    line = end;
+                }
+                post += 1;
+            }
+        }
+        if line != self.left.len() {
+            return 9;
+        }
+        if lowest != u32::MAX {
+            return lowest;
+        }
+        let bound = (self.d as u128).pow(self.h as u32) * (self.h as u128 + 1) * largest as u128;
+        if bound > 4_000_000_000_000_000_000 {
+            return 13;
+        }
+        0
+    }
+
+    /// 11 and 12 of one choice.
+    fn lines_number(&self, from: usize, to: usize, next_size: i32) -> u32 {
+        if from == to {
+            return 0;
+        }
+        let (mut before, mut sum, mut weights_allowed) = (-1, 0, true);
+        for (&next, &weight) in self.left[from..to].iter().zip(&self.right[from..to]) {
+            if next <= before || next >= next_size {
+                return 11;
+            }
+            before = next;
+            weights_allowed &= weight >= 1 && weight <= self.d as i32;
+            sum += weight as i64;
+        }
+        if weights_allowed && sum == self.d as i64 {
+            0
+        } else {
+            12
+        }
+    }
+}
+
+fn checked(words: &[i32]) -> Result<Book<'_>, u32> {
+    let book = Book::read(words)?;
+    match book.check() {
+        0 => Ok(book),
+        no => Err(no),
+    }
+}
+
+pub fn check(words: &[i32]) -> u32 {
+    checked(words).err().unwrap_or(0)
+}
+
+/// What is worked out once for a book.
+struct Solved {
+    /// the cost of each choice with best choices ever after
+    costs: [[i64; CHOICES]; POSTS],
+    /// the next posts of each choice as bits
+    nexts: [[u64; CHOICES]; POSTS],
+    /// the first line of each choice
+    lines: [[u16; CHOICES]; POSTS],
+    /// the first post of the next stage
+    base: [u8; POSTS],
+    best: [u8; POSTS],
+    /// the best choice but one, where there is one
+    second: [u8; POSTS],
+    least: [i64; POSTS],
+}
+
+fn first_best(costs: &[i64], barred: u8) -> u8 {
+    let (mut at, mut low) = (NOT_REACHED, 0);
+    for (c, &cost) in costs.iter().enumerate() {
+        if barred >> c & 1 == 0 && (at == NOT_REACHED || cost < low) {
+            (at, low) = (c as u8, cost);
+        }
+    }
+    at
+}
+
+impl Solved {
+    fn new(book: &Book) -> Solved {
+        let mut t = Solved {
+            costs: [[0; CHOICES]; POSTS],
+            nexts: [[0; CHOICES]; POSTS],
+            lines: [[0; CHOICES]; POSTS],
+            base: [0; POSTS],
+            best: [0; POSTS],
+            second: [0; POSTS],
+            least: [0; POSTS],
+        };
+        let (mut line, mut post, mut end) = (0, 0, 0);
+        for &size in book.sizes {
+            end += size as usize;
+            while post < end {
+                t.base[post] = end as u8;
+                for c in 0..book.counts[post] as usize {
+                    t.lines[post][c] = line as u16;
+                    line += 1 + book.left[line] as usize;
+                }
+                post += 1;
+            }
+        }
+        let mut scale = 1;
+        for &size in book.sizes.iter().rev() {
+            for _ in 0..size {
+                post -= 1;
+                t.solve_post(book, post, scale);
+            }
+            scale *= book.d as i64;
+        }
+        t
+    }
+
+    fn solve_post(&mut self, book: &Book, post: usize, scale: i64) {
+        let count = book.counts[post] as usize;
+        let base = self.base[post] as usize;
+        for c in 0..count {
+            let line = self.lines[post][c] as usize;
+            let (from, to) = (line + 1, line + 1 + book.left[line] as usize);
+            let (mut cost, mut nexts) = (scale * book.right[line] as i64, 0);
+            for (&next, &weight) in book.left[from..to].iter().zip(&book.right[from..to]) {
+                let q = base + next as usize;
+                cost += weight as i64 * self.least[q];
+                nexts |= 1 << q;
+            }
+            self.costs[post][c] = cost;
+            self.nexts[post][c] = nexts;
+        }
+        let costs = &self.costs[post][..count];
+        let best = first_best(costs, 0);
+        self.best[post] = best;
+        self.second[post] = first_best(costs, 1 << best);
+        self.least[post] = costs[best as usize];
+    }
+
+    /// The plan that keeps to `plan` before `post`, takes choice c there and best choices after it.
+    fn build(&self, s: usize, plan: &[u8], post: usize, c: u8, out: &mut [u8; POSTS]) {
+        let mut reached = 1u64;
+        for p in 0..s {
+            out[p] = if reached >> p & 1 == 0 {
+                NOT_REACHED
+            } else {
+                let a = if p < post { plan[p] } else if p == post { c } else { self.best[p] };
+                reached |= self.nexts[p][a as usize];
+                a
+            };
+        }
+    }
+
+    /// The weight with which the plan reaches each post.
+    fn reach(&self, book: &Book, plan: &[u8]) -> [i64; POSTS] {
+        let mut weights = [0; POSTS];
+        weights[0] = 1;
+        for (p, &c) in plan.iter().enumerate() {
+            if c == NOT_REACHED {
+                continue;
+            }
+            let line = self.lines[p][c as usize] as usize;
+            let (from, to) = (line + 1, line + 1 + book.left[line] as usize);
+            let (here, base) = (weights[p], self.base[p] as usize);
+            for (&next, &weight) in book.left[from..to].iter().zip(&book.right[from..to]) {
+                weights[base + next as usize] += here * weight as i64;
+            }
+        }
+        weights
+    }
+}
+
+pub fn least(words: &[i32]) -> (u32, i64) {
+    match checked(words) {
+        Ok(book) => (0, Solved::new(&book).least[0]),
+        Err(no) => (no, 0),
+    }
+}
+
+/// The candidates that wait, at most K, reached through `order`.
+struct Pool {
+    costs: [i64; PLANS],
+    plans: [[u8; POSTS]; PLANS],
+    splits: [u8; PLANS],
+    barred: [u8; PLANS],
+    order: [u8; PLANS],
+    count: usize,
+}
+
+impl Pool {
+    fn new() -> Pool {
+        Pool {
+            costs: [0; PLANS],
+            plans: [[0; POSTS]; PLANS],
+            splits: [0; PLANS],
+            barred: [0; PLANS],
+            order: std::array::from_fn(|i| i as u8),
+            count: 0,
+        }
+    }
+
+    /// Would a candidate of this cost surely be let go?
+    fn beyond(&self, k: usize, cost: i64) -> bool {
+        self.count == k && cost > self.costs[self.order[k - 1] as usize]
+    }
+
+    fn insert(&mut self, k: usize, s: usize, cost: i64, plan: &[u8; POSTS], split: usize, barred: u8) {
+        let at = self.order[..self.count].partition_point(|&o| {
+            let o = o as usize;
+            self.costs[o] < cost || (self.costs[o] == cost && self.plans[o][..s] <= plan[..s])
+        });
+        if at == k {
+            return;
+        }
+        let spare = self.count.min(k - 1);
+        let slot = self.order[spare];
+        self.order.copy_within(at..spare, at + 1);
+        self.order[at] = slot;
+        self.count = spare + 1;
+        let slot = slot as usize;
+        self.costs[slot] = cost;
+        self.plans[slot] = *plan;
+        self.splits[slot] = split as u8;
+        self.barred[slot] = barred;
+    }
+
+    /// The slot of the first candidate, which no longer waits.
+    fn pop(&mut self) -> usize {
+        let slot = self.order[0];
+        self.count -= 1;
+        self.order.copy_within(1..self.count + 1, 0);
+        self.order[self.count] = slot;
+        slot as usize
+    }
+}
+
+/// The list of a checked book, to slices that hold it.
+fn list(book: &Book, k: usize, costs: &mut [i64], plans: &mut [u8]) -> usize {
+    let t = Solved::new(book);
+    let s = book.s;
+    let mut pool = Pool::new();
+    let mut row = [0; POSTS];
+    t.build(s, &[], 0, t.best[0], &mut row);
+    pool.insert(k, s, t.least[0], &row, 0, 0);
+    for j in 0..k {
+        if pool.count == 0 {
+            return j;
+        }
+        let slot = pool.pop();
+        let (cost, split, barred) = (pool.costs[slot], pool.splits[slot] as usize, pool.barred[slot]);
+        let plan = &mut plans[j * s..(j + 1) * s];
+        costs[j] = cost;
+        plan.copy_from_slice(&pool.plans[slot][..s]);
+        let weights = t.reach(book, plan);
+        for p in split..s {
+            let f = plan[p];
+            if f == NOT_REACHED {
+                continue;
+            }
+            let mask = if p == split { barred | 1 << f } else { 1 << f };
+            let c = if p == split { first_best(&t.costs[p][..book.counts[p] as usize], mask) } else { t.second[p] };
+            if c == NOT_REACHED {
+                continue;
+            }
+            let child = cost + weights[p] * (t.costs[p][c as usize] - t.costs[p][f as usize]);
+            if pool.beyond(k, child) {
+                continue;
+            }
+            t.build(s, plan, p, c, &mut row);
+            pool.insert(k, s, child, &row, p, mask);
+        }
+    }
+    k
+}
+
+fn asked(words: &[i32], k: usize) -> Result<Book<'_>, u32> {
+    let book = checked(words)?;
+    if (1..=PLANS).contains(&k) {
+        Ok(book)
+    } else {
+        Err(14)
+    }
+}
+
+pub fn rank(words: &[i32], k: usize, costs: &mut [i64], plans: &mut [u8]) -> (u32, usize) {
+    let book = match asked(words, k) {
+        Ok(book) => book,
+        Err(no) => return (no, 0),
+    };
+    if costs.len() < k {
+        return (15, 0);
+    }
+    if plans.len() < k * book.s {
+        return (16, 0);
+    }
+    (0, list(&book, k, costs, plans))
+}
+
+pub fn write(words: &[i32], k: usize, record: &mut [u8]) -> (u32, usize) {
+    let book = match asked(words, k) {
+        Ok(book) => book,
+        Err(no) => return (no, 0),
+    };
+    let (mut costs, mut plans) = ([0; PLANS], [0; PLANS * POSTS]);
+    let n = list(&book, k, &mut costs, &mut plans);
+    let body = 4 * words.len();
+    let length = 12 + body + 8 * n + n * book.s;
+    if record.len() < length {
+        return (18, 0);
+    }
+    for (out, figure) in record[..12].chunks_exact_mut(4).zip([words.len(), k, n]) {
+        out.copy_from_slice(&(figure as u32).to_le_bytes());
+    }
+    for (out, word) in record[12..12 + body].chunks_exact_mut(4).zip(words) {
+        out.copy_from_slice(&word.to_le_bytes());
+    }
+    let at = 12 + body;
+    for (out, cost) in record[at..at + 8 * n].chunks_exact_mut(8).zip(&costs) {
+        out.copy_from_slice(&cost.to_le_bytes());
+    }
+    record[at + 8 * n..length].copy_from_slice(&plans[..n * book.s]);
+    (0, length)
+}
+
+pub fn accept(record: &[u8]) -> (u32, usize, usize) {
+    accepted(record).map_or_else(|no| (no, 0, 0), |(posts, k)| (0, posts, k))
+}
+
+fn accepted(record: &[u8]) -> Result<(usize, usize), u32> {
+    const WORDS: usize = 4172;
+    let figure = |at: usize| u32::from_le_bytes([record[at], record[at + 1], record[at + 2], record[at + 3]]) as usize;
+    if record.len() < 12 || figure(0) > WORDS || record.len() < 12 + 4 * figure(0) {
+        return Err(19);
+    }
+    let (w, most, k) = (figure(0), figure(4), figure(8));
+    let mut room = [0; WORDS];
+    for (word, bytes) in room.iter_mut().zip(record[12..12 + 4 * w].chunks_exact(4)) {
+        *word = i32::from_le_bytes([bytes[0], bytes[1], bytes[2], bytes[3]]);
+    }
+    let book = asked(&room[..w], most)?;
+    let tail = &record[12 + 4 * w..];
+    if k < 1 || k > most || tail.len() != 8 * k + k * book.s {
+        return Err(20);
+    }
+    let (mut costs, mut plans) = ([0; PLANS], [0; PLANS * POSTS]);
+    let n = list(&book, most, &mut costs, &mut plans);
+    let same = n == k
+        && tail[..8 * k].chunks_exact(8).zip(&costs).all(|(bytes, cost)| bytes == cost.to_le_bytes())
+        && tail[8 * k..] == plans[..k * book.s];
+    if same {
+        Ok((book.s, k))
+    } else {
+        Err(21)
+    }
+}

@@ -1,0 +1,333 @@
+//! Speed of the library against the same calls in ordinary Rust, as ratios: library time / Rust time, the median of many runs in turn.
+//! First both are asserted to give equal results on every book that is timed, and on many small and spoiled ones.
+
+mod baseline;
+
+use std::hint::black_box;
+use std::time::Instant;
+
+/// A small generator, so that every run times the same books.
+struct Random(u64);
+
+impl Random {
+    fn next(&mut self) -> u64 {
+        self.0 ^= self.0 << 13;
+        self.0 ^= self.0 >> 7;
+        self.0 ^= self.0 << 17;
+        self.0
+    }
+
+    /// From low to high.
+    fn from(&mut self, low: i32, high: i32) -> i32 {
+        low + (self.next() % (high - low + 1) as u64) as i32
+    }
+}
+
+/// What a book of random costs and weights looks like. `transitions(i)` is how many next posts the i-th choice has.
+struct Shape<'a> {
+    scale: i32,
+    sizes: &'a [i32],
+    choices: i32,
+    costs: (i32, i32),
+    transitions: &'a dyn Fn(usize) -> i32,
+}
+
+fn random_book(rng: &mut Random, shape: &Shape) -> Vec<i32> {
+    let (mut counts, mut left, mut right) = (vec![], vec![], vec![]);
+    let last = shape.sizes.len() - 1;
+    let mut made = 0;
+    for (stage, &size) in shape.sizes.iter().enumerate() {
+        for _ in 0..size {
+            let count = if stage == last { 1 } else { shape.choices };
+            counts.push(count);
+            for _ in 0..count {
+                let r = if stage == last { 0 } else { (shape.transitions)(made).min(shape.sizes[stage + 1]).min(shape.scale) };
+                made += 1;
+                left.push(r);
+                right.push(rng.from(shape.costs.0, shape.costs.1));
+                if r > 0 {
+                    left.extend(some_of(rng, shape.sizes[stage + 1], r));
+                    right.extend(parts_of(rng, shape.scale, r));
+                }
+            }
+        }
+    }
+    let mut words = vec![shape.scale, last as i32, left.len() as i32];
+    words.extend_from_slice(shape.sizes);
+    words.extend(counts);
+    words.extend(left);
+    words.extend(right);
+    words
+}
+
+/// r numbers below n that rise strictly.
+fn some_of(rng: &mut Random, n: i32, r: i32) -> Vec<i32> {
+    let mut left = r;
+    (0..n)
+        .filter(|i| {
+            let taken = rng.from(1, n - i) <= left;
+            left -= taken as i32;
+            taken
+        })
+        .collect()
+}
+
+/// r numbers from 1 on whose sum is d.
+fn parts_of(rng: &mut Random, d: i32, r: i32) -> Vec<i32> {
+    let mut cuts: Vec<i32> = some_of(rng, d - 1, r - 1).iter().map(|c| c + 1).collect();
+    cuts.push(d);
+    let mut before = 0;
+    cuts.iter().map(|&c| c - std::mem::replace(&mut before, c)).collect()
+}
+
+const BOOK_A: [i32; 22] = [2, 1, 7, 1, 2, 2, 1, 1, 2, 0, 1, 1, 0, 0, 0, 10, 1, 1, 12, 2, 4, 9];
+const BOOK_C: [i32; 32] = [
+    1, 2, 11, 1, 2, 1, 2, 2, 1, 1, 1, 0, 1, 1, 1, 0, 1, 0, 1, 0, 0, 5, 1, 3, 1, 1, 1, 4, 1, 2, 1, 0,
+];
+
+fn typical(rng: &mut Random) -> Vec<i32> {
+    random_book(rng, &Shape { scale: 100, sizes: &[1, 6, 6, 6, 6], choices: 3, costs: (-500, 3000), transitions: &|_| 3 })
+}
+
+const LARGEST: [i32; 9] = [1, 7, 8, 8, 8, 8, 8, 8, 8];
+
+/// 64 posts, H = 8, 2,048 lines.
+fn largest(rng: &mut Random, costs: (i32, i32)) -> Vec<i32> {
+    let transitions = |i: usize| 3 + (i % 2 == 0 || i < 48) as i32;
+    random_book(rng, &Shape { scale: 10, sizes: &LARGEST, choices: 8, costs, transitions: &transitions })
+}
+
+/// Room for a whole answer.
+struct Room {
+    costs: [i64; 64],
+    plans: [u8; 4096],
+    record: Vec<u8>,
+}
+
+impl Room {
+    fn new() -> Room {
+        Room { costs: [7; 64], plans: [7; 4096], record: vec![7; kbest::RECORD_MOST] }
+    }
+}
+
+fn number<T>(answer: Result<T, kbest::Refused>, none: T) -> (u32, T) {
+    answer.map_or_else(|r| (r.number(), none), |t| (0, t))
+}
+
+fn assert_equal(book: &[i32]) {
+    let mut no = number(kbest::check(book), ()).0;
+    assert_eq!(no, baseline::check(book), "check of {book:?}");
+    assert_eq!(number(kbest::least(book), 0), baseline::least(book), "least of {book:?}");
+    for k in [0, 1, 2, 3, 8, 64, 65] {
+        let (mut a, mut b) = (Room::new(), Room::new());
+        let ranked = number(kbest::rank(book, k, &mut a.costs, &mut a.plans), 0);
+        assert_eq!(ranked, baseline::rank(book, k, &mut b.costs, &mut b.plans), "rank of {book:?}");
+        assert!(a.costs == b.costs && a.plans == b.plans, "list of {book:?}");
+        let written = number(kbest::write(book, k, &mut a.record), 0);
+        assert_eq!(written, baseline::write(book, k, &mut b.record), "write of {book:?}");
+        assert!(a.record == b.record, "record of {book:?}");
+        no = written.0;
+        for at in [None, Some(4), Some(8), Some(written.1.saturating_sub(1)), Some(12)] {
+            let mut record = a.record[..written.1].to_vec();
+            if let Some(byte) = at.and_then(|i| record.get_mut(i)) {
+                *byte ^= 1;
+            }
+            let accepted = kbest::accept(&record).map_or_else(|r| (r.number(), 0, 0), |x| (0, x.posts, x.listed));
+            assert_eq!(accepted, baseline::accept(&record), "accept for {book:?}");
+            assert!(no != 0 || at.is_some() || accepted.0 == 0);
+        }
+    }
+}
+
+fn assert_small_books(rng: &mut Random) -> usize {
+    for round in 0..400 {
+        let sizes: Vec<i32> = (0..rng.from(2, 4)).map(|n| if n == 0 { 1 } else { rng.from(1, 4) }).collect();
+        let (scale, choices, most) = (rng.from(1, 6), rng.from(1, 3), rng.from(1, 4));
+        let shape = Shape { scale, sizes: &sizes, choices, costs: (0, rng.from(0, 9)), transitions: &|i| 1 + (i as i32 % most) };
+        let mut book = random_book(rng, &shape);
+        assert_equal(&book);
+        let at = rng.from(0, book.len() as i32 - 1) as usize;
+        book[at] += rng.from(-2, 2);
+        assert_equal(&book);
+        if round % 4 == 0 {
+            book.truncate(at);
+            assert_equal(&book);
+        }
+    }
+    900
+}
+
+/// Seconds of one call, by `repeats` of it.
+fn time<T>(repeats: usize, call: &mut impl FnMut() -> T) -> f64 {
+    let start = Instant::now();
+    for _ in 0..repeats {
+        black_box(call());
+    }
+    start.elapsed().as_secs_f64() / repeats as f64
+}
+
+fn median(mut values: Vec<f64>) -> f64 {
+    values.sort_by(f64::total_cmp);
+    values[values.len() / 2]
+}
+
+/// How often to call, so that a run is long enough for the clock.
+fn repeats<T>(call: &mut impl FnMut() -> T) -> usize {
+    const SECONDS: f64 = 100e-6;
+    (SECONDS / time(20, call)).ceil().max(1.0) as usize
+}
+
+/// The median of first / second over many runs in turn.
+fn ratio<S, T>(mut first: impl FnMut() -> S, mut second: impl FnMut() -> T) -> f64 {
+    const RUNS: usize = 101;
+    let (a, b) = (repeats(&mut first), repeats(&mut second));
+    let mut one = |i: usize| {
+        if i % 2 == 0 {
+            let x = time(a, &mut first);
+            x / time(b, &mut second)
+        } else {
+            let y = time(b, &mut second);
+            time(a, &mut first) / y
+        }
+    };
+    median((0..RUNS).map(&mut one).collect())
+}
+
+fn rank_library(book: &[i32], k: usize, room: &mut Room) -> usize {
+    let listed = kbest::rank(black_box(book), black_box(k), &mut room.costs, &mut room.plans).unwrap_or(0);
+    black_box(room);
+    listed
+}
+
+fn rank_rust(book: &[i32], k: usize, room: &mut Room) -> usize {
+    let listed = baseline::rank(black_box(book), black_box(k), &mut room.costs, &mut room.plans).1;
+    black_box(room);
+    listed
+}
+
+fn write_library(book: &[i32], room: &mut Room) -> usize {
+    let length = kbest::write(black_box(book), 64, &mut room.record).unwrap_or(0);
+    black_box(room);
+    length
+}
+
+fn write_rust(book: &[i32], room: &mut Room) -> usize {
+    let length = baseline::write(black_box(book), 64, &mut room.record).1;
+    black_box(room);
+    length
+}
+
+fn check_library(book: &[i32]) -> bool {
+    kbest::check(black_box(book)).is_ok()
+}
+
+fn check_rust(book: &[i32]) -> bool {
+    baseline::check(black_box(book)) == 0
+}
+
+/// One line of the table: library / Rust for each call.
+fn ratios(name: &str, book: &[i32]) {
+    let (mut a, mut b) = (Room::new(), Room::new());
+    let check = ratio(|| check_library(book), || check_rust(book));
+    let least = ratio(|| kbest::least(black_box(book)), || baseline::least(black_box(book)));
+    let ranks: Vec<f64> = [1, 8, 64].iter().map(|&k| ratio(|| rank_library(book, k, &mut a), || rank_rust(book, k, &mut b))).collect();
+    let write = ratio(|| write_library(book, &mut a), || write_rust(book, &mut b));
+    let length = write_library(book, &mut a);
+    let record = &a.record[..length];
+    let accept = ratio(|| kbest::accept(black_box(record)), || baseline::accept(black_box(record)));
+    println!(
+        "{name:28} {check:7.2} {least:7.2} {:8.2} {:8.2} {:8.2} {write:8.2} {accept:8.2}",
+        ranks[0], ranks[1], ranks[2]
+    );
+}
+
+/// How the time of ranking grows with K, against K = 1.
+fn growth_with_k(name: &str, book: &[i32]) {
+    let (mut a, mut b) = (Room::new(), Room::new());
+    let counts = [1, 2, 4, 8, 16, 32, 64];
+    let library: Vec<f64> = counts.iter().map(|&k| ratio(|| rank_library(book, k, &mut a), || rank_library(book, 1, &mut b))).collect();
+    let rust: Vec<f64> = counts.iter().map(|&k| ratio(|| rank_rust(book, k, &mut a), || rank_rust(book, 1, &mut b))).collect();
+    for (who, row) in [("library", library), ("Rust", rust)] {
+        println!("{name:16} {who:8} {}", row.iter().map(|r| format!("{r:7.2}")).collect::<String>());
+    }
+}
+
+fn growth_with_lines(books: &[(usize, Vec<i32>)]) {
+    let (mut a, mut b) = (Room::new(), Room::new());
+    let small = &books[0].1;
+    let row = |name: &str, of: &mut dyn FnMut(&[i32]) -> f64| {
+        println!("{name:25} {}", books.iter().map(|(_, book)| format!("{:7.2}", of(book))).collect::<String>());
+    };
+    row("check, library", &mut |book| ratio(|| check_library(book), || check_library(small)));
+    row("check, Rust", &mut |book| ratio(|| check_rust(book), || check_rust(small)));
+    for k in [1, 64] {
+        row(&format!("rank, K = {k}, library"), &mut |book| ratio(|| rank_library(book, k, &mut a), || rank_library(small, k, &mut b)));
+        row(&format!("rank, K = {k}, Rust"), &mut |book| ratio(|| rank_rust(book, k, &mut a), || rank_rust(small, k, &mut b)));
+    }
+}
+
+/// Books of 64 posts with few to many lines: from 2 choices of 1 transition to 8 choices of 3.
+fn books_by_lines(rng: &mut Random) -> Vec<(usize, Vec<i32>)> {
+    let shapes: [(i32, i32); 4] = [(2, 1), (3, 2), (5, 3), (8, 3)];
+    shapes
+        .iter()
+        .map(|&(choices, r)| {
+            let shape = Shape { scale: 10, sizes: &LARGEST, choices, costs: (-500, 3000), transitions: &|_| r };
+            let book = random_book(rng, &shape);
+            (book[2] as usize, book)
+        })
+        .collect()
+}
+
+/// One call many times, for a profile: which, book, K and repeats.
+fn only(words: &[String], books: &[(&str, Vec<i32>)]) {
+    let book = &books.iter().find(|(name, _)| name.starts_with(&words[1])).expect("a book of that name").1;
+    let (k, repeats) = (words[2].parse().expect("K"), words[3].parse().expect("repeats"));
+    let mut room = Room::new();
+    for _ in 0..repeats {
+        let answer = match words[0].as_str() {
+            "check" => check_library(book) as usize,
+            "least" => kbest::least(black_box(book)).is_ok() as usize,
+            "rank" => rank_library(book, k, &mut room),
+            "rust" => rank_rust(book, k, &mut room),
+            _ => panic!("check, least, rank or rust"),
+        };
+        black_box(answer);
+    }
+}
+
+fn main() {
+    let mut rng = Random(88172645463325252);
+    let books = [
+        ("book A", BOOK_A.to_vec()),
+        ("book C", BOOK_C.to_vec()),
+        ("typical", typical(&mut rng)),
+        ("largest", largest(&mut rng, (-500, 3000))),
+        ("ties (largest)", largest(&mut rng, (0, 0))),
+    ];
+    let words: Vec<String> = std::env::args().skip(1).collect();
+    if !words.is_empty() {
+        return only(&words, &books);
+    }
+    let by_lines = books_by_lines(&mut rng);
+    for book in books.iter().map(|(_, b)| b).chain(by_lines.iter().map(|(_, b)| b)) {
+        assert_eq!(kbest::check(book), Ok(()), "a timed book is accepted");
+        assert_equal(book);
+    }
+    println!("equal results on the timed books and {} small ones\n", assert_small_books(&mut rng));
+
+    println!("library time / Rust time");
+    println!("{:28} {:>7} {:>7} {:>8} {:>8} {:>8} {:>8} {:>8}", "", "check", "least", "rank 1", "rank 8", "rank 64", "write 64", "accept");
+    for (name, book) in &books {
+        ratios(&format!("{name}, {} lines", book[2]), book);
+    }
+
+    println!("\nranking, time / time for K = 1");
+    println!("{:25} {}", "K", [1, 2, 4, 8, 16, 32, 64].map(|k| format!("{k:7}")).concat());
+    growth_with_k("typical", &books[2].1);
+    growth_with_k("largest", &books[3].1);
+
+    println!("\n64 posts, H = 8: time / time for the fewest lines");
+    println!("{:25} {}", "lines", by_lines.iter().map(|(lines, _)| format!("{lines:7}")).collect::<String>());
+    growth_with_lines(&by_lines);
+}

@@ -1,0 +1,89 @@
+/* The K best plans of a tour book, for C and C++ on x86-64 Linux. Link with libkbest_c.a.
+ *
+ * A book is an array of signed 32-bit words: D, H, L, the posts of each stage, the choices of each post, then the left and the right column.
+ * A plan has one byte for each of the book's S posts: the choice of a reached post, 255 for any other.
+ * Costs are exact and stand over D^H: divide by kbest_power(D, H) for the expected total cost.
+ *
+ * Every call takes any array of any length and any count. Each array crosses as a pointer and its number of elements.
+ * A call gives 0, or the number of the first question that is answered no. A refusal sets every figure to 0 and leaves every lent array as it was.
+ * Success writes the stated front of a lent array and leaves the rest as it was.
+ *
+ * The caller sees to it that each pointer is not null, is aligned for its type and points to as many elements as are said (for a length of 0 to
+ * any place), and that no array or figure that is written overlaps another argument. No call keeps a pointer, allocates memory, reads or writes
+ * anything but its arguments, or waits; calls from several threads do not disturb each other. A call takes less than 128 kB of stack. */
+#ifndef KBEST_H
+#define KBEST_H
+
+#include <stddef.h>
+#include <stdint.h>
+
+#ifdef __cplusplus
+extern "C" {
+#endif
+
+/* The longest book in words, the most posts of a book, the most plans of a list and the longest record in bytes. */
+#define KBEST_BOOK_MOST 4172
+#define KBEST_POSTS_MOST 64
+#define KBEST_PLANS_MOST 64
+#define KBEST_RECORD_MOST 21308
+
+/* The byte of a post that a plan does not reach. */
+#define KBEST_NOT_REACHED 255
+
+/* The questions, in order. Each is put to the whole input before the next. */
+enum {
+    KBEST_ACCEPTED = 0,
+    KBEST_TOO_FEW_WORDS = 1,     /* are there three words? */
+    KBEST_SCALE = 2,             /* is D from 1 to 100? */
+    KBEST_STAGES = 3,            /* is H from 1 to 8? */
+    KBEST_LINES = 4,             /* is L from 1 to 2,048? */
+    KBEST_POST_COUNTS = 5,       /* are there H + 1 post counts? */
+    KBEST_POSTS = 6,             /* is there one post at stage 0, are there 1 to 16 at every other, and at most 64 in all? */
+    KBEST_BOOK_LENGTH = 7,       /* is the length exactly 4 + H + S + 2L words? */
+    KBEST_CHOICES = 8,           /* has each post 1 to 8 choices, and 1 at stage H? */
+    KBEST_LINES_USED = 9,        /* is every r as allowed, do all lines fit, and are exactly L used? */
+    KBEST_COST = 10,             /* is every cost from -100,000 to 100,000? */
+    KBEST_NEXT_POST = 11,        /* do the next posts of each choice rise strictly and lie within the next stage? */
+    KBEST_WEIGHT = 12,           /* is every weight from 1 to D, and does each choice's sum to D? */
+    KBEST_BOUND = 13,            /* is D^H x (H + 1) x (largest cost without its sign) at most 4 x 10^18? */
+    KBEST_COUNT = 14,            /* is K from 1 to 64? */
+    KBEST_COSTS_ROOM = 15,       /* has the lent array of costs K places? */
+    KBEST_PLANS_ROOM = 16,       /* has the lent array of plans K x S bytes? */
+    KBEST_PLAN = 17,             /* is it a plan of this book? */
+    KBEST_RECORD_ROOM = 18,      /* does the lent array hold the record? */
+    KBEST_RECORD_HEAD = 19,      /* are there 12 bytes, is W at most 4,172, and do 4 x W bytes follow? */
+    KBEST_RECORD_LENGTH = 20,    /* is k from 1 to K, and the record's length exact? */
+    KBEST_RECORD_LIST = 21       /* are costs, plans and k those that ranking gives? */
+};
+
+/* Checks a book: questions 1 to 13. */
+uint32_t kbest_check(const int32_t *book, size_t words);
+
+/* d^e for d from 1 to 100 and e from 0 to 8; 0 for any other. */
+uint64_t kbest_power(size_t d, size_t e);
+
+/* Values one plan: questions 1 to 13, then 17. *cost is the plan's cost. */
+uint32_t kbest_value(const int32_t *book, size_t words, const uint8_t *plan, size_t bytes, int64_t *cost);
+
+/* The least cost of all plans of a book: questions 1 to 13. */
+uint32_t kbest_least(const int32_t *book, size_t words, int64_t *cost);
+
+/* Lists the k best plans: questions 1 to 16. *listed is how many there are, k or as many as the book has. Plan j, counted from 0, has cost
+ * costs[j] and fills the S bytes of plans from j x S. Lower costs come first; of equal costs the lower choice at the first post where they differ. */
+uint32_t kbest_rank(const int32_t *book, size_t words, size_t k, int64_t *costs, size_t costs_room, uint8_t *plans, size_t plans_room,
+                    size_t *listed);
+
+/* Writes the record of a book and k to the front of `record`: questions 1 to 14, then 18. *length is the record's length. */
+uint32_t kbest_write(const int32_t *book, size_t words, size_t k, uint8_t *record, size_t room, size_t *length);
+
+/* Accepts a record: question 19, then 1 to 14 of what it carries, 20 and 21. *posts is S of its book, *listed how many plans it lists. */
+uint32_t kbest_accept(const uint8_t *record, size_t bytes, size_t *posts, size_t *listed);
+
+/* Where plan j of a record lies: *length bytes from record + *offset. Both are 0 where the record is not accepted or lists no plan j. */
+void kbest_show(const uint8_t *record, size_t bytes, size_t j, size_t *offset, size_t *length);
+
+#ifdef __cplusplus
+}
+#endif
+
+#endif

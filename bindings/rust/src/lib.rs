@@ -1,0 +1,141 @@
+//! The K best plans of a tour book: a safe wrapper of the static library `libkbest_c.a`.
+//!
+//! A book is a slice of 32-bit words, a plan one byte for each post. Costs are exact and stand over D^H. Each call takes any slice of any length
+//! and any count; what cannot be answered is refused with the number of the first question that is answered no. Nothing is allocated here.
+
+use std::fmt;
+use std::num::NonZeroU32;
+
+/// The longest book in words.
+pub const BOOK_MOST: usize = 4172;
+/// The most posts of a book, so the longest plan in bytes.
+pub const POSTS_MOST: usize = 64;
+/// The most plans of a list.
+pub const PLANS_MOST: usize = 64;
+/// The longest record in bytes.
+pub const RECORD_MOST: usize = 21308;
+/// The byte of a post that a plan does not reach.
+pub const NOT_REACHED: u8 = 255;
+
+mod c {
+    #[link(name = "kbest_c", kind = "static")]
+    extern "C" {
+        pub fn kbest_check(book: *const i32, words: usize) -> u32;
+        pub fn kbest_power(d: usize, e: usize) -> u64;
+        pub fn kbest_value(book: *const i32, words: usize, plan: *const u8, bytes: usize, cost: *mut i64) -> u32;
+        pub fn kbest_least(book: *const i32, words: usize, cost: *mut i64) -> u32;
+        pub fn kbest_rank(
+            book: *const i32,
+            words: usize,
+            k: usize,
+            costs: *mut i64,
+            costs_room: usize,
+            plans: *mut u8,
+            plans_room: usize,
+            listed: *mut usize,
+        ) -> u32;
+        pub fn kbest_write(book: *const i32, words: usize, k: usize, record: *mut u8, room: usize, length: *mut usize) -> u32;
+        pub fn kbest_accept(record: *const u8, bytes: usize, posts: *mut usize, listed: *mut usize) -> u32;
+        pub fn kbest_show(record: *const u8, bytes: usize, j: usize, offset: *mut usize, length: *mut usize);
+    }
+}
+
+/// The number of the first question that is answered no.
+#[derive(Clone, Copy, Debug, PartialEq, Eq)]
+pub struct Refused(NonZeroU32);
+
+impl Refused {
+    /// From 1 to 21.
+    pub fn number(self) -> u32 {
+        self.0.get()
+    }
+}
+
+impl fmt::Display for Refused {
+    fn fmt(&self, f: &mut fmt::Formatter<'_>) -> fmt::Result {
+        write!(f, "refused {}", self.0)
+    }
+}
+
+impl std::error::Error for Refused {}
+
+/// What a record carries.
+#[derive(Clone, Copy, Debug, PartialEq, Eq)]
+pub struct Accepted {
+    /// S, the posts of its book.
+    pub posts: usize,
+    /// How many plans it lists.
+    pub listed: usize,
+}
+
+fn answer<T>(number: u32, figure: T) -> Result<T, Refused> {
+    match NonZeroU32::new(number) {
+        None => Ok(figure),
+        Some(n) => Err(Refused(n)),
+    }
+}
+
+// In each call below the pointers and lengths are those of live slices and figures; what is written is borrowed for that alone, so nothing overlaps.
+
+/// Checks a book: questions 1 to 13.
+pub fn check(book: &[i32]) -> Result<(), Refused> {
+    answer(unsafe { c::kbest_check(book.as_ptr(), book.len()) }, ())
+}
+
+/// d^e for d from 1 to 100 and e from 0 to 8; 0 for any other.
+pub fn power(d: usize, e: usize) -> u64 {
+    unsafe { c::kbest_power(d, e) }
+}
+
+/// The cost of one plan: questions 1 to 13, then 17.
+pub fn value(book: &[i32], plan: &[u8]) -> Result<i64, Refused> {
+    let mut cost = 0;
+    let no = unsafe { c::kbest_value(book.as_ptr(), book.len(), plan.as_ptr(), plan.len(), &mut cost) };
+    answer(no, cost)
+}
+
+/// The least cost of all plans: questions 1 to 13.
+pub fn least(book: &[i32]) -> Result<i64, Refused> {
+    let mut cost = 0;
+    let no = unsafe { c::kbest_least(book.as_ptr(), book.len(), &mut cost) };
+    answer(no, cost)
+}
+
+/// Lists the k best plans in the two slices and gives how many there are: questions 1 to 16. Plan j fills the S bytes from j × S.
+pub fn rank(book: &[i32], k: usize, costs: &mut [i64], plans: &mut [u8]) -> Result<usize, Refused> {
+    let mut listed = 0;
+    let no = unsafe {
+        c::kbest_rank(
+            book.as_ptr(),
+            book.len(),
+            k,
+            costs.as_mut_ptr(),
+            costs.len(),
+            plans.as_mut_ptr(),
+            plans.len(),
+            &mut listed,
+        )
+    };
+    answer(no, listed)
+}
+
+/// Writes the record of a book and k to the front of the slice and gives its length: questions 1 to 14, then 18.
+pub fn write(book: &[i32], k: usize, record: &mut [u8]) -> Result<usize, Refused> {
+    let mut length = 0;
+    let no = unsafe { c::kbest_write(book.as_ptr(), book.len(), k, record.as_mut_ptr(), record.len(), &mut length) };
+    answer(no, length)
+}
+
+/// Accepts a record: question 19, then 1 to 14 of what it carries, 20 and 21.
+pub fn accept(record: &[u8]) -> Result<Accepted, Refused> {
+    let (mut posts, mut listed) = (0, 0);
+    let no = unsafe { c::kbest_accept(record.as_ptr(), record.len(), &mut posts, &mut listed) };
+    answer(no, Accepted { posts, listed })
+}
+
+/// Plan j as a part of the record; empty where the record is not accepted or lists no plan j.
+pub fn show(record: &[u8], j: usize) -> &[u8] {
+    let (mut offset, mut length) = (0, 0);
+    unsafe { c::kbest_show(record.as_ptr(), record.len(), j, &mut offset, &mut length) };
+    &record[offset..offset + length]
+}

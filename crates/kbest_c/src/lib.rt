@@ -1,0 +1,97 @@
+// The calls of the library for C and other languages. A lent slice crosses as a pointer and a length; a figure is written through a pointer.
+ghost use mathlib.Core.Path.{_≡_};
+ghost use lib.ListN.{length, take, drop};
+ghost use Rattle.model.specs.Questions.{bookNumber};
+ghost use Rattle.model.specs.Record.{acceptNumber};
+ghost use Rattle.model.specs.Calls.{powerOf, valueNumber, valueCost, leastCost, roomOf, rankNumber, rankCount, rankCosts, rankPlans, writeNumber, writeLength, writeRecord, acceptStates, acceptCount, shown};
+ghost use Rattle.kbest_c.specs.Part.{shownOffset, shownLength};
+
+// The number of the first question of 1 to 13 that is answered no, or 0.
+#[no_mangle]
+pub extern "C" fn kbest_check(book: &[i32]) -> u32
+    ensures { λ r. ⌜ r ≡ bookNumber (now (book .entry)) ⌝ }
+{
+    check_book::check(book)
+}
+
+// d^e for d from 1 to 100 and e from 0 to 8, else 0.
+#[no_mangle]
+pub extern "C" fn kbest_power(d: usize, e: usize) -> u64
+    ensures { λ r. ⌜ r ≡ powerOf d e ⌝ }
+{
+    power::power(d, e)
+}
+
+// The number of valuing a plan of a book; its exact cost over D^H, 0 where it is refused.
+#[no_mangle]
+pub extern "C" fn kbest_value(book: &[i32], plan: &[u8], cost: &mut i64) -> u32
+    ensures { λ r. ⌜ (r ≡ valueNumber (now (book .entry)) (now (plan .entry))) × (now (cost .exit) ≡ valueCost (now (book .entry)) (now (plan .entry))) ⌝ }
+{
+    let v = value::value(book, plan);
+    let c = v.cost;
+    *cost = c;
+    v.no
+}
+
+// The number of the least cost of a book; that cost over D^H, 0 where it is refused.
+#[no_mangle]
+pub extern "C" fn kbest_least(book: &[i32], cost: &mut i64) -> u32
+    ensures { λ r. ⌜ (r ≡ bookNumber (now (book .entry))) × (now (cost .exit) ≡ leastCost (now (book .entry))) ⌝ }
+{
+    let v = least::least(book);
+    let c = v.cost;
+    *cost = c;
+    v.no
+}
+
+// The number of ranking the k best plans; how many are listed. Their costs and plans go to the fronts of the two slices.
+#[no_mangle]
+pub extern "C" fn kbest_rank(
+    book: &[i32],
+    k: usize,
+    costs: &mut [i64],
+    plans: &mut [u8],
+    listed: &mut usize,
+) -> u32
+    ensures { λ r. ⌜ (r ≡ rankNumber (now (book .entry)) (roomOf k (now (costs .entry)) (now (plans .entry)))) × (now (listed .exit) ≡ rankCount (now (book .entry)) (roomOf k (now (costs .entry)) (now (plans .entry)))) × (now (costs .exit) ≡ rankCosts (now (book .entry)) k (now (costs .entry)) (now (plans .entry))) × (now (plans .exit) ≡ rankPlans (now (book .entry)) k (now (costs .entry)) (now (plans .entry))) ⌝ }
+{
+    let a = rank::rank(book, k, costs, plans);
+    *listed = a.k;
+    a.no
+}
+
+// The number of writing the record of a book and k; its length. The record goes to the front of the slice.
+#[no_mangle]
+pub extern "C" fn kbest_write(book: &[i32], k: usize, filed: &mut [u8], size: &mut usize) -> u32
+    ensures { λ r. ⌜ (r ≡ writeNumber (now (book .entry)) k (length (now (filed .entry)))) × (now (size .exit) ≡ writeLength (now (book .entry)) k (length (now (filed .entry)))) × (now (filed .exit) ≡ writeRecord (now (book .entry)) k (now (filed .entry))) ⌝ }
+{
+    let w = write::write(book, k, filed);
+    *size = w.length;
+    w.no
+}
+
+// The number of accepting a record; how many states its book has and how many plans it lists.
+#[no_mangle]
+pub extern "C" fn kbest_accept(filed: &[u8], states: &mut usize, listed: &mut usize) -> u32
+    ensures { λ r. ⌜ (r ≡ acceptNumber (now (filed .entry))) × (now (states .exit) ≡ acceptStates (now (filed .entry))) × (now (listed .exit) ≡ acceptCount (now (filed .entry))) ⌝ }
+{
+    let a = accept::accept(filed);
+    *states = a.s;
+    *listed = a.k;
+    a.no
+}
+
+// Where plan j lies in the record: an offset and a length, both 0 where nothing is shown. An exported function returns no part of a slice.
+#[no_mangle]
+pub extern "C" fn kbest_show(filed: &[u8], j: usize, offset: &mut usize, size: &mut usize)
+    ensures { λ _. ⌜ (take (now (size .exit)) (drop (now (offset .exit)) (now (filed .entry))) ≡ shown (now (filed .entry)) j) × (now (offset .exit) ≡ shownOffset (now (filed .entry)) j) × (now (size .exit) ≡ shownLength (now (filed .entry)) j) ⌝ }
+{
+    let a = accept::accept(filed);
+    if a.k <= j {
+        *offset = 0;
+        *size = 0;
+        return;
+    }
+    *offset = 12 + 4 * record::carried_length(filed) + 8 * a.k + j * a.s;
+    *size = a.s;
+}
