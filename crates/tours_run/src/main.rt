@@ -2,27 +2,15 @@
 // then the number that the call gives and the figures beside it. A lent slice is filled with 77 before a call and printed after it.
 ghost use mathlib.Core.Path.{_≡_};
 ghost use Prim.Native.Nat.{_+_, _<_, _≤_};
-ghost use lib.IntN.{natAbs};
 ghost use lib.ListN.{length};
 
 // ---- printing
-
-// A number without its sign. The lowest has no positive counterpart, so one is added only after the cast.
-fn magnitude(x: i64) -> u64
-    ensures { λ r. ⌜ r ≡ natAbs x ⌝ }
-{
-    if x < 0 {
-        let d = -1 - x;
-        return (d as u64) + 1;
-    }
-    x as u64
-}
 
 fn print_signed(x: i64) {
     if x < 0 {
         io::write_all(1, b"-");
     }
-    io::print_decimal(1, magnitude(x));
+    io::print_decimal(1, text::magnitude(x));
 }
 
 fn print_number(label: &[u8], no: u32) {
