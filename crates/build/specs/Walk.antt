@@ -1,18 +1,18 @@
 -- The bytes of a policy, by an action for each state: one walk over the states in order settles which of them are reached.
 -- Assumes nothing.
 use mathlib.Core.Path.{_≡_}
-use mathlib.Core.Bool.{Bool, false, cond}
+use mathlib.Core.Bool.{cond}
 use mathlib.Core.Logic.{_⊎_}
 use mathlib.Core.List.{List, [], _∷_}
 use Prim.Native.Nat.{ℕ, zero, suc, _<_}
 use lib.Dec.{eqb, ltb}
-use lib.ListN.{length, getD}
+use lib.ListN.{length}
 use Rattle.model.specs.Lists.{isIn}
 use Rattle.model.specs.Model.{Words, Action, actionCount}
-use Rattle.model.specs.Policy.{Policy, nexts, onward}
+use Rattle.model.specs.Policy.{Policy, onward}
 use Rattle.model.specs.Path.{byteAt}
 use Rattle.laws.specs.Greedy.{byteOf}
-use Rattle.policy.specs.Marks.{mark}
+use Rattle.sets.specs.Sets.{holds, SetOf}
 use Rattle.build.specs.Best.{bestAt}
 
 module _ (act : ℕ → ℕ → Action) (choose : ℕ → ℕ) where
@@ -34,7 +34,7 @@ chosen ws bs r c = splitBy (byteAt bs) r c (bestAt ws)
 abbrev pub Usable : Words → Policy → ℕ → Type 0
 Usable ws bs r = (s : ℕ) → s < r → (s < length bs) × ((byteAt bs s ≡ 255) ⊎ (byteAt bs s < actionCount ws s))
 
--- of state s, whose action is a: its byte, and the marks before and after its next states are marked
-pub record Stepped (act : ℕ → ℕ → Action) (s a byte : ℕ) (before after : List Bool) : Type 0 where
-  pub byte-is : byte ≡ byteOf (getD before s false) a
-  pub marked : after ≡ mark (nexts (act s byte .transitions)) before
+-- of state s, whose action is a: its byte, and the set of states known to be reached before and after its next states are among them
+pub record Stepped (act : ℕ → ℕ → Action) (s a byte before after : ℕ) : Type 0 where
+  pub byte-is : byte ≡ byteOf (holds before s) a
+  pub reached : (qs : List ℕ) → SetOf before qs → SetOf after (onward act s byte qs)

@@ -8,7 +8,7 @@ ghost use Rattle.model.specs.Model.{stateCount, actionCount, action};
 ghost use Rattle.model.specs.Questions.{bookNumber};
 ghost use Rattle.model.specs.Path.{byteAt};
 ghost use Rattle.book.specs.Read.{SizesAre};
-ghost use Rattle.index.specs.Index.{IndexOf};
+ghost use Rattle.nexts.specs.Nexts.{NextsOf};
 ghost use Rattle.build.specs.Best.{RowsOf, BestOf};
 ghost use Rattle.build.specs.Walk.{walkBy, splitBy, chosen, Usable, Stepped};
 
@@ -49,51 +49,65 @@ fn choice(best: &[usize; 64], plan: &[u8], r: usize, c: usize, s: usize) -> usiz
     best[s]
 }
 
-// The byte of state s, whose next states are marked: its action if the state is marked, else 255.
+// The byte of a state, and the states known to be reached once its next states are too.
+pub struct Stepping {
+    pub byte: u8,
+    pub reach: u64,
+}
+
+// State s has its action if it is among the states known to be reached, else 255.
 fn step(
     b: &[i32],
-    z: Sizes,
-    x: &[usize; 192],
+    t: &[u64; 512],
     best: &[usize; 64],
     plan: &[u8],
     r: usize,
     c: usize,
     s: usize,
-    marks: &mut [bool; 64],
-) -> u8
-    requires { ⌜ (bookNumber (now b) ≡ 0) × SizesAre (now b) z × IndexOf (now b) (now x) × BestOf (now b) (now best) × Usable (now b) (now plan) r × (c < actionCount (now b) r) × (s < stateCount (now b)) ⌝ }
-    ensures { λ a. ⌜ Stepped (action (now (b .entry))) s (chosen (now (b .entry)) (now (plan .entry)) r c s) a (now (marks .entry)) (now (marks .exit)) ⌝ }
+    reach: u64,
+) -> Stepping
+    requires { ⌜ (bookNumber (now b) ≡ 0) × NextsOf (now b) (now t) × BestOf (now b) (now best) × Usable (now b) (now plan) r × (c < actionCount (now b) r) × (s < stateCount (now b)) ⌝ }
+    ensures { λ a. ⌜ Stepped (action (now (b .entry))) s (chosen (now (b .entry)) (now (plan .entry)) r c s) (a .byte) reach (a .reach) ⌝ }
 {
-    if !marks[s] {
-        return 255;
+    if !sets::in_set(reach, s as u64) {
+        return Stepping {
+            byte: 255,
+            reach: reach,
+        };
     }
     let a = choice(best, plan, r, c, s);
-    if a != 255 {
-        policy::mark_nexts(b, z, x, s, a, marks);
+    if a == 255 {
+        return Stepping {
+            byte: 255,
+            reach: reach,
+        };
     }
-    a as u8
+    let more = t[8 * s + a];
+    Stepping {
+        byte: a as u8,
+        reach: sets::join(more, reach),
+    }
 }
 
 // The bytes of the policy that has those of `plan` before state r, takes action c at r and first best actions after it.
 pub fn build(
     b: &[i32],
-    z: Sizes,
-    x: &[usize; 192],
+    t: &[u64; 512],
     best: &[usize; 64],
     plan: &[u8],
     r: usize,
     c: usize,
     out: &mut [u8],
 )
-    requires { ⌜ (bookNumber (now b) ≡ 0) × SizesAre (now b) z × IndexOf (now b) (now x) × BestOf (now b) (now best) × Usable (now b) (now plan) r × (r < stateCount (now b)) × (c < actionCount (now b) r) × (length (now out) ≡ stateCount (now b)) ⌝ }
+    requires { ⌜ (bookNumber (now b) ≡ 0) × NextsOf (now b) (now t) × BestOf (now b) (now best) × Usable (now b) (now plan) r × (r < stateCount (now b)) × (c < actionCount (now b) r) × (length (now out) ≡ stateCount (now b)) ⌝ }
     ensures { λ _. ⌜ now (out .exit) ≡ walkBy (action (now (b .entry))) (chosen (now (b .entry)) (now (plan .entry)) r c) (stateCount (now (b .entry))) 0 (0 ∷ []) ⌝ }
 {
-    let n = z.s;
-    let mut marks = policy::first_marks();
+    let mut reach: u64 = 1;
     let mut s: usize = 0;
-    while s < n {
-        let a = step(b, z, x, best, plan, r, c, s, &mut marks);
-        out[s] = a;
+    while s < out.len() {
+        let a = step(b, t, best, plan, r, c, s, reach);
+        out[s] = a.byte;
+        reach = a.reach;
         s = s + 1;
     }
 }

@@ -67,13 +67,19 @@ nexts-low ws ok p c =
     inside = at-nexts (λ q. q < stateCount ws) (action ws p c .transitions) (shape ws ok .inside p c)
 
 -- the next states of n lines from line k on, at state p
-abbrev nextsFrom : Words → ℕ → ℕ → ℕ → List ℕ
+abbrev pub nextsFrom : Words → ℕ → ℕ → ℕ → List ℕ
 nextsFrom ws p k n = nexts (map (transitionAt ws (stage ws p)) (upFrom k n))
 
-nexts-cons : (ws : Words) (p k n m : ℕ) → n ≡ suc m
+pub nexts-cons : (ws : Words) (p k n m : ℕ) → n ≡ suc m
     → nextsFrom ws p k n ≡ (firstState ws (stage ws p + 1) + natAbs (left ws k)) ∷ nextsFrom ws p (suc k) m
 unfolding transitionAt
 nexts-cons ws p k n m e = rw e
+
+-- those of all r lines of action c are its next states
+pub nexts-are : (ws : Words) (p c r : ℕ) → p < stateCount ws → c < actionCount ws p → r ≡ branches ws (actionLine ws p c)
+    → nexts (action ws p c .transitions) ≡ nextsFrom ws p (actionLine ws p c + 1 + 0) (r - 0)
+unfolding readAction
+nexts-are ws p c r l k e = let z : r - 0 ≡ r = omega arith in rw (action-is ws p c l k, add-zero, z, e)
 
 -- of action c of state p, which has r transitions, those from transition i on are still to be marked
 pub record ToMark (ws : Words) (p c r i : ℕ) (start marks : List Bool) : Type 0 where
@@ -83,12 +89,9 @@ pub record ToMark (ws : Words) (p c r i : ℕ) (start marks : List Bool) : Type 
 module _ (ws : Words) (p c r : ℕ) where
   pub all-to-mark : bookNumber ws ≡ 0 → p < stateCount ws → c < actionCount ws p → r ≡ branches ws (actionLine ws p c)
       → (marks : List Bool) → ToMark ws p c r 0 marks marks
-  unfolding readAction
   all-to-mark ok l k e marks =
+      let are = nexts-are ws p c r l k e in
       record { low = subst (Every (λ (q : ℕ). q < 64)) are (nexts-low ws ok p c); rest = ap (λ (qs : List ℕ). mark qs marks) (sym are) }
-    where
-      are : nexts (action ws p c .transitions) ≡ nextsFrom ws p (actionLine ws p c + 1 + 0) (r - 0)
-      are = let z : r - 0 ≡ r = omega arith in rw (action-is ws p c l k, add-zero, z, e)
 
   module _ (i : ℕ) (start marks : List Bool) (m : ToMark ws p c r i start marks) where
     module _ (q : ℕ) (l : i < r) (e : q ≡ firstState ws (stage ws p + 1) + natAbs (left ws (actionLine ws p c + 1 + i))) where

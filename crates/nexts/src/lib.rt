@@ -1,0 +1,67 @@
+// The next states of every action as a set, so that a walk over the states of a policy needs no line of the book.
+use book::Sizes;
+ghost use mathlib.Core.Path.{_≡_};
+ghost use Prim.Native.Nat.{_<_};
+ghost use lib.ListN.{length};
+ghost use Rattle.model.specs.Model.{stateCount, actionCount, actionLine, action};
+ghost use Rattle.model.specs.Questions.{bookNumber};
+ghost use Rattle.model.specs.Policy.{nexts};
+ghost use Rattle.book.specs.Read.{SizesAre};
+ghost use Rattle.index.specs.Index.{IndexOf};
+ghost use Rattle.sets.specs.Sets.{SetOf};
+ghost use Rattle.nexts.specs.Nexts.{NextsTo, NextsOf};
+
+// The next states of the action whose first line is line j: action c of state p.
+fn next_set(b: &[i32], z: Sizes, x: &[usize; 192], p: usize, c: usize, j: usize) -> u64
+    requires { ⌜ (bookNumber (now b) ≡ 0) × SizesAre (now b) z × IndexOf (now b) (now x) × (p < stateCount (now b)) × (c < actionCount (now b) p) × (j ≡ actionLine (now b) p c) ⌝ }
+    ensures { λ r. ⌜ SetOf r (nexts (action (now (b .entry)) p c .transitions)) ⌝ }
+{
+    let at = 4 + z.h + z.s + j;
+    let r = book::size_at(b, at);
+    let base = x[64 + p];
+    let mut set: u64 = 0;
+    let mut i: usize = 0;
+    while i < r {
+        i = i + 1;
+        let q = base + book::size_at(b, at + i);
+        set = sets::add(set, q as u64);
+    }
+    set
+}
+
+// The sets of the actions of state p, where t has those of the states before it.
+fn fill_state(b: &[i32], z: Sizes, x: &[usize; 192], p: usize, t: &mut [u64; 512])
+    requires { ⌜ (bookNumber (now b) ≡ 0) × SizesAre (now b) z × IndexOf (now b) (now x) × (p < stateCount (now b)) × NextsTo (now b) p 0 (now t) ⌝ }
+    ensures { λ _. ⌜ NextsTo (now (b .entry)) p (actionCount (now (b .entry)) p) (now (t .exit)) ⌝ }
+{
+    let n = index::count(b, z, p);
+    let mut j = x[p];
+    let mut c: usize = 0;
+    while c < n {
+        let y = next_set(b, z, x, p, c, j);
+        t[8 * p + c] = y;
+        j = index::line_after(b, z, j);
+        c = c + 1;
+    }
+}
+
+fn no_sets() -> [u64; 512]
+    ensures { λ r. ⌜ length r ≡ 512 ⌝ }
+{
+    [0; 512]
+}
+
+// At 8 × p + c the set of the next states of action c of state p.
+pub fn next_sets(b: &[i32], z: Sizes, x: &[usize; 192]) -> [u64; 512]
+    requires { ⌜ (bookNumber (now b) ≡ 0) × SizesAre (now b) z × IndexOf (now b) (now x) ⌝ }
+    ensures { λ r. ⌜ NextsOf (now (b .entry)) r ⌝ }
+{
+    let s = z.s;
+    let mut t = no_sets();
+    let mut p: usize = 0;
+    while p < s {
+        fill_state(b, z, x, p, &mut t);
+        p = p + 1;
+    }
+    t
+}
