@@ -76,24 +76,24 @@ def random_sizes(rng, stages, most):
 
 def small(rng):
     scale, stages = scale_of(rng), rng.randint(1, 3)
-    return fill(rng, scale, random_sizes(rng, stages, 3), 4, 3, costs_within(rng, most_cost(scale, stages)), rng.choice([4, 20, 300]))
+    return fill(rng, scale, random_sizes(rng, stages, 3), 4, 3, costs_within(rng, most_cost(scale, stages)), rng.choice([4, 300, 10 ** 6]))
 
 
 def deep(rng):
     scale, stages = scale_of(rng), rng.randint(5, 8)
-    return fill(rng, scale, random_sizes(rng, stages, 3), 3, 2, costs_within(rng, most_cost(scale, stages)), rng.choice([4, 20, 60]))
+    return fill(rng, scale, random_sizes(rng, stages, 3), 3, 2, costs_within(rng, most_cost(scale, stages)), rng.choice([20, 2000, 10 ** 5]))
 
 
 def wide(rng):
     scale, stages = scale_of(rng), rng.randint(1, 2)
-    return fill(rng, scale, random_sizes(rng, stages, 16), 8, 16, costs_within(rng, most_cost(scale, stages)), rng.choice([8, 60, 300]))
+    return fill(rng, scale, random_sizes(rng, stages, rng.choice([4, 8, 16])), 8, 16, costs_within(rng, most_cost(scale, stages)), rng.choice([8, 60, 1000]))
 
 
 def ties(rng):
     """Few different costs, so that the order rests on the choices."""
     scale, stages = rng.choice([1, 1, 2, 4]), rng.randint(2, 4)
     few = rng.choice([(0,), (1, 1, 1, 2), (0, 1), (-1, 0, 1)])
-    return fill(rng, scale, random_sizes(rng, stages, 3), 4, 2, lambda r: r.choice(few), rng.choice([100, 1000]))
+    return fill(rng, scale, random_sizes(rng, stages, 3), 4, 2, lambda r: r.choice(few), rng.choice([1000, 10 ** 6]))
 
 
 def few(rng):
@@ -111,7 +111,15 @@ def unreached(rng):
 def crossing(rng):
     """Ways that part and meet again: a post is reached by several choices."""
     scale, stages = rng.choice([2, 3, 10, 100]), rng.randint(3, 4)
-    return fill(rng, scale, [1] + [2] * stages, 3, 2, costs_within(rng, most_cost(scale, stages)), 3000)
+    return fill(rng, scale, [1] + [2] * stages, 3, 2, costs_within(rng, most_cost(scale, stages)), 10 ** 6)
+
+
+def many(rng):
+    """Thousands of plans, from which the first 64 are to be found."""
+    scale, stages = scale_of(rng), rng.randint(2, 6)
+    few = rng.random() < 0.4
+    cost = (lambda r: r.randint(0, 2)) if few else costs_within(rng, most_cost(scale, stages))
+    return fill(rng, scale, random_sizes(rng, stages, 4), 5, 3, cost, 10 ** 7)
 
 
 def edge(rng):
@@ -197,14 +205,29 @@ def feasible(words, plans=MOST_PLANS, walks=MOST_WALKS):
     if ref.check(words):
         return True
     most = min(plans, walks // days_at_most(words))
-    return sum(1 for _ in itertools.islice(ref.plans(ref.Book(words)), most + 1)) <= most
+    return count_plans(words, most) <= most
+
+
+def count_plans(words, most):
+    """How many plans an accepted book has, or most + 1."""
+    return sum(1 for _ in itertools.islice(ref.plans(ref.Book(words)), most + 1))
 
 
 def draw(rng, shape):
     """A book of the shape that the reference can enumerate."""
+    if shape is many:
+        return draw_many(rng)
     while True:
         words = shape(rng)
         if feasible(words):
+            return words
+
+
+def draw_many(rng):
+    """From 1,000 to 20,000 plans."""
+    while True:
+        words = many(rng)
+        if not ref.check(words) and days_at_most(words) <= 64 and 1000 <= count_plans(words, 20000) <= 20000:
             return words
 
 

@@ -284,7 +284,7 @@ def wild(rng):
 def kinds():
     """(how many of the stored cases, how they are made)"""
     for shape, count in ((books.small, 280), (books.deep, 140), (books.wide, 110), (books.ties, 150), (books.few, 150), (books.unreached, 90),
-                         (books.crossing, 120), (books.edge, 80), (books.large, 12), (books.full, 4)):
+                         (books.crossing, 120), (books.many, 30), (books.edge, 80), (books.large, 10), (books.full, 4)):
         yield count, good_of(shape)
     for n in range(1, 14):
         yield 36, fault(n)
