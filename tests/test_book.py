@@ -200,6 +200,36 @@ class Messages(unittest.TestCase):
         self.assertEqual(str(caught.exception), 'the file has 5 bytes, which is not a multiple of 4')
 
 
+class Document(unittest.TestCase):
+    """The worked example of docs/FORMAT.md is the record, and its text the book."""
+
+    def setUp(self):
+        with open(os.path.join(HERE, '..', 'docs', 'FORMAT.md'), encoding='utf-8') as f:
+            self.text = f.read()
+
+    def test_table_of_bytes(self):
+        found = b''
+        for offset, digits, value in re.findall(r'^\| (\d+) \| `([0-9a-f ]+)` \| (\d+) \|', self.text, re.M):
+            self.assertEqual(int(offset), len(found))
+            part = bytes.fromhex(digits)
+            self.assertEqual(int.from_bytes(part, 'little'), int(value))
+            found += part
+        self.assertEqual(found, ref.record(tours.book_a(), 3))
+
+    def test_text_form(self):
+        blocks = re.findall(r'```\n(.*?)```', self.text, re.S)
+        self.assertEqual(book.words_of_text(blocks[0].encode()), tours.book_a())
+        self.assertTrue(book.record_to_text(ref.record(tours.book_a(), 3)).endswith(blocks[1]))
+
+    def test_page(self):
+        page = ref.page(book.to_binary(BOOK_A.encode(), 3)).decode()
+        self.assertIn(''.join('    ' + line + '\n' for line in page.splitlines()), self.text)
+
+    def test_book_c(self):
+        row = re.search(r'Book C has the words (.*?)\. Its', self.text, re.S)[1]
+        self.assertEqual([int(n) for n in re.findall(r'-?\d+', row)], tours.book_c())
+
+
 class Command(unittest.TestCase):
     def run_tool(self, *args, data=b''):
         return subprocess.run([sys.executable, TOOL] + list(args), input=data, capture_output=True)
