@@ -188,6 +188,16 @@ def full(rng):
     return fill(rng, scale, sizes, 2, 16, costs_within(rng, most_cost(scale, 3)), rng.choice([1, 2, 8]))
 
 
+def vast(rng):
+    """64 posts and up to 2,048 lines, nearly all reached: far more plans than can be enumerated."""
+    while True:
+        stages, scale = rng.randint(4, 8), rng.choice([2, 3, 10, 60, 100])
+        cost = rng.choice([lambda r: 0, lambda r: r.randint(0, 1), costs_within(rng, most_cost(scale, stages)), costs_within(rng, most_cost(scale, stages))])
+        words = fill(rng, scale, [1] + split_up(rng, 63, stages, 16), rng.randint(2, 8), rng.choice([2, 3, 6, 16]), cost, 10 ** 60)
+        if words[2] <= 2048:
+            return words
+
+
 SHAPES = [small, deep, wide, ties, few, unreached, crossing, edge]
 
 

@@ -4,17 +4,20 @@
     tests/cases.py                  writes both files; the same on every run
     tests/cases.py show SEED N      prints case N of a seed: each command, and what is expected of it
 
-A case is a row of commands over one book; the head of crates/cases/src/main.rt lists them. What is expected is worked out by reference.py alone.
+A case is a row of commands over one book; the head of crates/cases/src/main.rt lists them. What is expected is worked out by reference.py alone;
+where the book has too many plans to enumerate, search.py gives the list.
 Case N of a seed is drawn from these two numbers only, so that it can be made again by itself.
 """
 
 import collections
+import contextlib
 import os
 import random
 import sys
 
 import books
 import reference as ref
+import search
 
 CASE, BOOK, BYTES, CHECK, LEAST, VALUE, RANK, WRITE, ACCEPT, SHOW, STORE, LENGTH, POWER = range(13)
 NAMES = 'case book bytes check least value rank write accept show store length power'.split()
@@ -206,6 +209,22 @@ def good(rng, words):
     yield from record_changes(rng, words, most)
 
 
+def vast(rng):
+    """All calls on a book that has too many plans to enumerate."""
+    words = books.vast(rng)
+    most = rng.choice([64, 64, rng.randint(2, 63)])
+    with search.instead_of_enumeration():
+        listed, record, posts = ref.ranking(words, most), ref.record(words, most), 64
+    yield from (book(words), Command(CHECK), Command(LEAST), Command(RANK, k=most, x=most, y=most * posts))
+    for plan in (listed[-1][1], rng.choice(listed)[1], books.bent_plan(rng, words, listed[0][1])):
+        yield from (data(plan), Command(VALUE))
+    yield from (Command(WRITE, k=most, x=len(record)), Command(ACCEPT), Command(SHOW, k=len(listed) - 1), Command(SHOW, k=len(listed)))
+    for _ in range(3):
+        at = rng.randrange(12 + 4 * len(words), len(record))
+        yield from (Command(STORE, x=at, y=record[at] ^ 1), Command(ACCEPT), Command(STORE, x=at, y=record[at]))
+    yield from (Command(LENGTH, x=len(record) - 1), Command(ACCEPT))
+
+
 def refused(rng, words):
     """All calls on a book that has faults, or with a count that is not allowed; and records that carry it."""
     yield from (book(words), Command(CHECK), Command(LEAST), data([0, 0, 255]), Command(VALUE))
@@ -283,9 +302,10 @@ def wild(rng):
 
 def kinds():
     """(how many of the stored cases, how they are made)"""
-    for shape, count in ((books.small, 280), (books.deep, 140), (books.wide, 110), (books.ties, 150), (books.few, 150), (books.unreached, 90),
+    for shape, count in ((books.small, 280), (books.deep, 140), (books.wide, 80), (books.ties, 150), (books.few, 150), (books.unreached, 90),
                          (books.crossing, 120), (books.many, 30), (books.edge, 80), (books.large, 10), (books.full, 4)):
         yield count, good_of(shape)
+    yield 12, vast
     for n in range(1, 14):
         yield 36, fault(n)
     yield 200, faults
@@ -296,8 +316,9 @@ def kinds():
 
 
 def make(seed, n, kind):
+    """The first command says by y, which the program does not read, that the book cannot be enumerated."""
     rng = random.Random('%s:%d' % (seed, n))
-    return [Command(CASE, k=n)] + list(kind(rng))
+    return [Command(CASE, k=n, y=int(kind is vast))] + list(kind(rng))
 
 
 def stored():
@@ -312,9 +333,16 @@ def fresh(seed, n):
     return make(seed, n, random.Random('kind %s:%d' % (seed, n)).choices([kind for _, kind in row], [count for count, _ in row])[0])
 
 
+def lists(case):
+    return search.instead_of_enumeration() if case[0].y else contextlib.nullcontext()
+
+
 def expected(cases):
-    machine = Machine()
-    return ''.join(machine.run(c) for case in cases for c in case)
+    machine, out = Machine(), []
+    for case in cases:
+        with lists(case):
+            out += [machine.run(c) for c in case]
+    return ''.join(out)
 
 
 def encoded(cases):
@@ -324,10 +352,11 @@ def encoded(cases):
 def describe(case):
     """Each command of a case in words, with what it has to print below it."""
     machine, out = Machine(), []
-    for c in case:
-        figures = ''.join(' %s=%d' % (name, x) for name, x in zip('kxy', (c.k, c.x, c.y)) if x)
-        content = ' ' + ' '.join(map(str, ref.words_of(c.payload) if c.kind == BOOK else c.payload)) if c.payload else ''
-        out.append('> ' + NAMES[c.kind] + figures + content + '\n' + machine.run(c))
+    with lists(case):
+        for c in case:
+            figures = ''.join(' %s=%d' % (name, x) for name, x in zip('kxy', (c.k, c.x, c.y)) if x)
+            content = ' ' + ' '.join(map(str, ref.words_of(c.payload) if c.kind == BOOK else c.payload)) if c.payload else ''
+            out.append('> ' + NAMES[c.kind] + figures + content + '\n' + machine.run(c))
     return ''.join(out)
 
 
