@@ -86,7 +86,8 @@ def deep(rng):
 
 def wide(rng):
     scale, stages = scale_of(rng), rng.randint(1, 2)
-    return fill(rng, scale, random_sizes(rng, stages, rng.choice([4, 8, 16])), 8, 16, costs_within(rng, most_cost(scale, stages)), rng.choice([8, 60, 1000]))
+    sizes = random_sizes(rng, stages, rng.choice([4, 8, 16]))
+    return fill(rng, scale, sizes, 8, 16, costs_within(rng, most_cost(scale, stages)), rng.choice([8, 60, 1000]))
 
 
 def ties(rng):
@@ -192,7 +193,8 @@ def vast(rng):
     """64 posts and up to 2,048 lines, nearly all reached: far more plans than can be enumerated."""
     while True:
         stages, scale = rng.randint(4, 8), rng.choice([2, 3, 10, 60, 100])
-        cost = rng.choice([lambda r: 0, lambda r: r.randint(0, 1), costs_within(rng, most_cost(scale, stages)), costs_within(rng, most_cost(scale, stages))])
+        any_cost = costs_within(rng, most_cost(scale, stages))
+        cost = rng.choice([lambda r: 0, lambda r: r.randint(0, 1), any_cost, any_cost])
         words = fill(rng, scale, [1] + split_up(rng, 63, stages, 16), rng.randint(2, 8), rng.choice([2, 3, 6, 16]), cost, 10 ** 60)
         if words[2] <= 2048:
             return words

@@ -245,7 +245,8 @@ def bad_counts(rng, words):
         k = bad_count(rng)
         yield from (Command(RANK, k=k, x=rng.choice([0, 70]), y=rng.choice([0, 4300])), Command(WRITE, k=k, x=rng.choice([0, 900])))
     k = rng.randint(1, 64)
-    yield from (Command(RANK, k=k, x=k - 1, y=rng.choice([0, k * posts])), Command(RANK, k=k, x=k, y=k * posts - 1), Command(WRITE, k=k, x=rng.choice([0, 5, 12])))
+    yield from (Command(RANK, k=k, x=k - 1, y=rng.choice([0, k * posts])), Command(RANK, k=k, x=k, y=k * posts - 1))
+    yield Command(WRITE, k=k, x=rng.choice([0, 5, 12]))
 
 
 def noise(rng):
@@ -261,7 +262,8 @@ def noise(rng):
         yield data(w.to_bytes(4, 'little') + bytes(rng.choice([8, 20, 200])))
     else:
         words = books.wild(rng)
-        yield data(len(words).to_bytes(4, 'little') + bytes([rng.randrange(70), 0, 0, 0, rng.randrange(4), 0, 0, 0]) + book_bytes(words) + bytes(rng.randrange(30)))
+        head = len(words).to_bytes(4, 'little') + bytes([rng.randrange(70), 0, 0, 0, rng.randrange(4), 0, 0, 0])
+        yield data(head + book_bytes(words) + bytes(rng.randrange(30)))
     yield from (Command(ACCEPT), Command(SHOW, k=rng.randrange(3)))
 
 

@@ -1,8 +1,8 @@
 // Puts test cases from standard input to the calls, and prints what each call gives. tests/cases.py makes the input, and the output that is expected.
 //
-// A case is a row of commands. The head of a command is 20 bytes, numbers of four bytes, low byte first: its kind, the low and the high half of k, x, y.
-// Two places are kept from command to command: the words of a book, and bytes (a policy or a record). Nothing that is read can make a range
-// wrong: every length is cut to the place that it is used on.
+// A case is a row of commands. The head of a command is 20 bytes, five numbers of four bytes, low byte first: its kind, the low and the high half of
+// k, x, y. Two places are kept from command to command: the words of a book, and bytes (a policy or a record). Nothing that is read can make a
+// range wrong: every length is cut to the place that it is used on.
 //
 //  0 prints k, the number of the case          6 ranks k policies, into x costs and y bytes
 //  1 reads x words, the book                   7 writes the record of k policies into x bytes, which are then the bytes
