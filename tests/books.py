@@ -126,7 +126,7 @@ def many(rng):
 def edge(rng):
     """The largest cost stands at question 13's edge, or one beyond it."""
     pairs = [(d, h) for h in (7, 8) for d in range(1, 101) if most_cost(d, h) < 100000]
-    scale, stages = rng.choice(pairs)
+    scale, stages = (100, 7) if rng.random() < 0.3 else rng.choice(pairs)    # 100^7 × 8 × 5,000 is the bound itself
     limit = most_cost(scale, stages) + rng.choice([0, 0, 1])
     found = rng.choice([limit, -limit])
     draw = rng.choice([lambda r: found, lambda r: r.choice([found, -found]), lambda r: r.choice([found, 0, 1])])
@@ -316,16 +316,20 @@ def break_8(rng, words, at):
 
 
 def break_9(rng, words, at):
-    kind = rng.randrange(4)
+    kind = rng.randrange(5)
     if kind == 0:
         words[at.left + rng.choice(at.heads)] = rng.choice([0, -1, 17, WORST, -WORST - 1])
     elif kind == 1:
         words[at.left + rng.choice(at.last_heads)] = rng.choice([1, -1, WORST])
     elif kind == 2:
         words[at.left + rng.choice(at.heads)] += rng.choice([1, -1])
-    else:
+    elif kind == 3:
         post = rng.randrange(at.posts - at.book.sizes[at.stages])
         words[at.counts[post]] = words[at.counts[post]] % 8 + 1
+    elif words[2] < 2048:
+        words[2] += 1
+        words.insert(at.right, rng.choice([0, 0, 1]))
+        words.append(rng.choice([0, 1]))
 
 
 def break_10(rng, words, at):

@@ -209,6 +209,38 @@ def good(rng, words):
     yield from record_changes(rng, words, most)
 
 
+def as_record(words, most, k, listed):
+    """The bytes of a record with any k, costs and plans."""
+    out = b''.join(n.to_bytes(4, 'little') for n in (len(words), most, k)) + book_bytes(words)
+    return out + b''.join(cost.to_bytes(8, 'little', signed=True) for cost, _ in listed) + b''.join(bytes(plan) for _, plan in listed)
+
+
+def forged(rng):
+    """Records whose sizes fit and whose list is another: short by one plan, empty, with a plan twice, in another order, with a plan that belongs later,
+    with a cost that is not the plan's."""
+    words, listed = [], []
+    while len(listed) < 3:
+        words = books.draw(rng, rng.choice([books.small, books.ties, books.few]))
+        listed = [] if ref.check(words) else ref.in_order(tuple(words))
+    most = rng.choice([2, 3, 5, len(listed), len(listed) + 1])
+    most = min(most, 64)
+    best = listed[:most]
+    other = [best[:-1], [], best + best[-1:], best[:-1] + best[:1], best[1:2] + best[:1] + best[2:], best[:-1] + listed[-1:],
+             [(best[0][0] + 1, best[0][1])] + best[1:], [(best[0][0], best[1][1])] + best[1:], best]
+    yield book(words)
+    for row in other:
+        yield from (data(as_record(words, most, len(row), row)), Command(ACCEPT), Command(SHOW, k=0))
+
+
+def longest(rng):
+    """W at its bound and one beyond, with all the bytes that it asks for, each 77."""
+    for w in (4172, 4173):
+        yield Command(WRITE, k=0)
+        yield from (Command(STORE, x=i, y=x) for i, x in enumerate(w.to_bytes(4, 'little')))
+        for n in (12 + 4 * w, 12 + 4 * w - 1, 12 + 4 * w + rng.randrange(9)):
+            yield from (Command(LENGTH, x=n), Command(ACCEPT))
+
+
 def vast(rng):
     """All calls on a book that has too many plans to enumerate."""
     words = books.vast(rng)
@@ -304,8 +336,8 @@ def wild(rng):
 
 def kinds():
     """(how many of the stored cases, how they are made)"""
-    for shape, count in ((books.small, 280), (books.deep, 140), (books.wide, 80), (books.ties, 150), (books.few, 150), (books.unreached, 90),
-                         (books.crossing, 120), (books.many, 30), (books.edge, 80), (books.large, 10), (books.full, 4)):
+    for shape, count in ((books.small, 250), (books.deep, 130), (books.wide, 56), (books.ties, 140), (books.few, 150), (books.unreached, 80),
+                         (books.crossing, 110), (books.many, 30), (books.edge, 80), (books.large, 10), (books.full, 4)):
         yield count, good_of(shape)
     yield 12, vast
     for n in range(1, 14):
@@ -314,6 +346,8 @@ def kinds():
     yield 60, wild
     yield 60, lambda rng: bad_counts(rng, books.draw(rng, rng.choice(books.SHAPES)))
     yield 140, noise
+    yield 36, forged
+    yield 4, longest
     yield 10, powers
 
 
