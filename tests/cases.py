@@ -2,7 +2,7 @@
 """Test cases for the calls: crates/cases/stdin, the input of the program `cases`, and crates/cases/stdout, what it has to print.
 
     tests/cases.py                  writes both files; the same on every run
-    tests/cases.py show SEED N      prints case N of a seed: each command, and what is expected of it
+    tests/cases.py show SEED N      prints case N of a seed: each command, and what is expected of it; seed `stored` for the stored ones
 
 A case is a row of commands over one book; the head of crates/cases/src/main.rt lists them. What is expected is worked out by reference.py alone;
 where the book has too many plans to enumerate, search.py gives the list.
@@ -357,10 +357,14 @@ def make(seed, n, kind):
     return [Command(CASE, k=n, y=int(kind is vast))] + list(kind(rng))
 
 
-def stored():
+def stored_kinds():
     row = [kind for count, kind in kinds() for _ in range(count)]
     random.Random(STORED_SEED).shuffle(row)
-    return [make(STORED_SEED, n, kind) for n, kind in enumerate(row)]
+    return row
+
+
+def stored():
+    return [make(STORED_SEED, n, kind) for n, kind in enumerate(stored_kinds())]
 
 
 def fresh(seed, n):
@@ -399,7 +403,7 @@ def describe(case):
 def main(args):
     if args[:1] == ['show']:
         seed, n = args[1], int(args[2])
-        sys.stdout.write(describe(stored()[n] if seed == 'stored' else fresh(seed, n)))
+        sys.stdout.write(describe(make(STORED_SEED, n, stored_kinds()[n]) if seed == 'stored' else fresh(seed, n)))
         return
     folder = os.path.join(os.path.dirname(os.path.abspath(__file__)), '..', 'crates', 'cases')
     cases = stored()
