@@ -19,8 +19,8 @@ import books
 import reference as ref
 import search
 
-CASE, BOOK, BYTES, CHECK, LEAST, VALUE, RANK, WRITE, ACCEPT, SHOW, STORE, LENGTH, POWER = range(13)
-NAMES = 'case book bytes check least value rank write accept show store length power'.split()
+CASE, BOOK, BYTES, CHECK, LEAST, VALUE, RANK, WRITE, ACCEPT, SHOW, STORE, LENGTH, POWER, PAGE = range(14)
+NAMES = 'case book bytes check least value rank write accept show store length power page'.split()
 FILL = 77
 MOST_WORDS, MOST_BYTES, MOST_COSTS, MOST_PLAN_BYTES = 4300, 24000, 80, 4400
 PRIME = 2 ** 55 - 55
@@ -124,6 +124,10 @@ class Machine:
 
     def run_power(self, c):
         return 'power %d\n' % (c.x ** c.y if 1 <= c.x <= 100 and 0 <= c.y <= 8 else 0)
+
+    def run_page(self, c):
+        text = ref.page(self.bytes()).decode()
+        return 'page %d\n' % len(text) + text
 
 
 # ---- the commands of a case
@@ -315,6 +319,44 @@ def faulty(rng, faults):
     return words
 
 
+def any_input(rng):
+    """K and a book; or too few bytes, a leftover, a fault, or more than is read."""
+    kind = rng.randrange(12)
+    if kind == 0:
+        return bytes(rng.randrange(256) for _ in range(rng.randrange(9)))
+    words = books.draw(rng, rng.choice(books.SHAPES + [books.large] if rng.random() < 0.1 else books.SHAPES))
+    k = rng.choice([1, 2, 3, 64, rng.randint(1, 64)])
+    if kind == 1:
+        k = rng.choice([0, 65, 256, 2 ** 31, 2 ** 32 - 1])
+    if kind in (2, 3):
+        words = faulty(rng, rng.sample(books.BREAKS, rng.randint(1, 3)))
+    data = k.to_bytes(4, 'little') + book_bytes(words)
+    if kind == 4:
+        return data + bytes(rng.randint(1, 3))
+    if kind == 5:
+        return data[:rng.randrange(len(data))]
+    if kind == 6:
+        return data + bytes(rng.choice([4, 16696, 16696 - len(data), 16697 - len(data), 16699 - len(data), 40000]))
+    return data
+
+
+def input_feasible(data):
+    data = data[:16696]
+    return len(data) % 4 > 0 or len(data) < 4 or books.feasible(ref.words_of(data[4:]))
+
+
+def page_input(rng):
+    while True:
+        found = any_input(rng)
+        if input_feasible(found):
+            return found
+
+
+def page(rng):
+    yield data(page_input(rng)[:MOST_BYTES])
+    yield Command(PAGE)
+
+
 # ---- which cases there are
 
 def good_of(shape):
@@ -349,6 +391,7 @@ def kinds():
     yield 36, forged
     yield 4, longest
     yield 10, powers
+    yield 200, page
 
 
 def make(seed, n, kind):

@@ -10,35 +10,8 @@ import random
 import subprocess
 import sys
 
-import books
 import cases
 import reference as ref
-
-
-def page_input(rng):
-    """K and a book; or too few bytes, a leftover, a fault, or more than is read."""
-    kind = rng.randrange(12)
-    if kind == 0:
-        return bytes(rng.randrange(256) for _ in range(rng.randrange(9)))
-    words = books.draw(rng, rng.choice(books.SHAPES + [books.large] if rng.random() < 0.1 else books.SHAPES))
-    k = rng.choice([1, 2, 3, 64, rng.randint(1, 64)])
-    if kind == 1:
-        k = rng.choice([0, 65, 256, 2 ** 31, 2 ** 32 - 1])
-    if kind in (2, 3):
-        words = cases.faulty(rng, rng.sample(books.BREAKS, rng.randint(1, 3)))
-    data = k.to_bytes(4, 'little') + cases.book_bytes(words)
-    if kind == 4:
-        return data + bytes(rng.randint(1, 3))
-    if kind == 5:
-        return data[:rng.randrange(len(data))]
-    if kind == 6:
-        return data + bytes(rng.choice([4, 16696, 16696 - len(data), 16697 - len(data), 16699 - len(data), 40000]))
-    return data
-
-
-def feasible(data):
-    data = data[:16696]
-    return len(data) % 4 > 0 or len(data) < 4 or books.feasible(ref.words_of(data[4:]))
 
 
 def run(program, data):
@@ -49,9 +22,7 @@ def run(program, data):
 def differs(program, seed, n):
     """Input n of a seed: None, or (input, expected, got)."""
     rng = random.Random('page %s:%d' % (seed, n))
-    data = page_input(rng)
-    while not feasible(data):
-        data = page_input(rng)
+    data = cases.page_input(rng)
     expected, got = ref.page(data), run(program, data)
     return None if expected == got else (data, expected, got)
 

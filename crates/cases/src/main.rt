@@ -10,10 +10,9 @@
 //  3 checks the book                           9 shows policy k of the bytes
 //  4 gives the least cost                     10 makes byte x of the bytes y
 //  5 values the bytes as a policy             11 makes the bytes x long
-//                                             12 looks up x to the power of y
+// 13 prints the page of the bytes             12 looks up x to the power of y
 ghost use mathlib.Core.Path.{_≡_};
 ghost use Prim.Native.Nat.{_<_, _≤_};
-ghost use lib.IntN.{natAbs};
 ghost use lib.ListN.{length};
 
 struct Head {
@@ -48,17 +47,6 @@ fn low_byte(x: usize) -> u8 {
     (x % 256) as u8
 }
 
-// A number without its sign. The lowest has no positive counterpart, so one is added only after the cast.
-fn magnitude(x: i64) -> u64
-    ensures { λ r. ⌜ r ≡ natAbs x ⌝ }
-{
-    if x < 0 {
-        let d = -1 - x;
-        return (d as u64) + 1;
-    }
-    x as u64
-}
-
 // One more byte taken into a digest, a remainder by a prime below 2^55, so that no product wraps.
 fn digest_step(d: u64, x: u8) -> u64
     requires { ⌜ d < 36028797018963913 ⌝ }
@@ -89,7 +77,7 @@ fn print_signed(x: i64) {
     if x < 0 {
         io::write_all(1, b"-");
     }
-    io::print_decimal(1, magnitude(x));
+    io::print_decimal(1, text::magnitude(x));
 }
 
 fn print_number(label: &[u8], no: u32) {
@@ -230,6 +218,22 @@ fn run_show(r: &[u8], j: usize) {
     print_bytes(accept::show(r, j));
 }
 
+fn page_places() -> [u8; 90112]
+    ensures { λ r. ⌜ length r ≡ 90112 ⌝ }
+{
+    [77; 90112]
+}
+
+// The page of the bytes, as the printing program would print it.
+fn run_page(input: &[u8]) {
+    let mut out = page_places();
+    let m = page::print_page(input, &mut out);
+    io::write_all(1, b"page");
+    print_figure(m as u64);
+    io::write_all(1, b"\n");
+    io::write_all(1, &out[..m]);
+}
+
 fn run_case(k: usize) {
     io::write_all(1, b"case");
     print_figure(k as u64);
@@ -300,6 +304,8 @@ fn ask(h: Head, b: &[i32], bytes: &[u8]) {
         run_show(bytes, h.k);
     } else if h.kind == 12 {
         run_power(h.x, h.y);
+    } else if h.kind == 13 {
+        run_page(bytes);
     }
 }
 
