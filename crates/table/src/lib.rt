@@ -66,10 +66,11 @@ fn fill_row(b: &[i32], z: Sizes, x: &[usize; 192], p: usize, q: &mut [i64; 512],
     ensures { λ r. ⌜ Filled (now (b .entry)) p (now (v .entry)) (now (q .entry)) (now (q .exit)) ⌝ }
 {
     let n = index::count(b, z, p);
+    let unit = costs::unit(b, z, x, p);
     let mut j = x[p];
     let mut c: usize = 0;
     while c < n {
-        let y = costs::action_cost(b, z, x, p, c, j, v);
+        let y = costs::action_cost(b, z, x, p, c, j, unit, v);
         q[8 * p + c] = y;
         j = index::line_after(b, z, j);
         c = c + 1;
