@@ -243,6 +243,56 @@ impl Solved {
     }
 }
 
+impl Book<'_> {
+    /// The plan's cost, if it is a plan of the book.
+    fn value(&self, plan: &[u8]) -> Option<i64> {
+        if plan.len() != self.s {
+            return None;
+        }
+        let (mut lines, mut reached) = ([0; POSTS], 1u64);
+        let (mut line, mut post, mut end) = (0, 0, 0);
+        for &size in self.sizes {
+            end += size as usize;
+            while post < end {
+                let here = reached >> post & 1 == 1;
+                if if here { plan[post] as i32 >= self.counts[post] } else { plan[post] != NOT_REACHED } {
+                    return None;
+                }
+                for c in 0..self.counts[post] {
+                    let next = line + 1 + self.left[line] as usize;
+                    if c == plan[post] as i32 {
+                        lines[post] = line;
+                        reached = self.left[line + 1..next].iter().fold(reached, |bits, &q| bits | 1 << (end + q as usize));
+                    }
+                    line = next;
+                }
+                post += 1;
+            }
+        }
+        let (mut costs, mut scale) = ([0; POSTS], 1);
+        for &size in self.sizes.iter().rev() {
+            for _ in 0..size {
+                post -= 1;
+                if plan[post] != NOT_REACHED {
+                    let (from, to) = (lines[post] + 1, lines[post] + 1 + self.left[lines[post]] as usize);
+                    let nexts = self.left[from..to].iter().zip(&self.right[from..to]);
+                    costs[post] = nexts.fold(scale * self.right[from - 1] as i64, |sum, (&q, &w)| sum + w as i64 * costs[end + q as usize]);
+                }
+            }
+            end = post;
+            scale *= self.d as i64;
+        }
+        Some(costs[0])
+    }
+}
+
+pub fn value(words: &[i32], plan: &[u8]) -> (u32, i64) {
+    match checked(words) {
+        Ok(book) => book.value(plan).map_or((17, 0), |cost| (0, cost)),
+        Err(no) => (no, 0),
+    }
+}
+
 pub fn least(words: &[i32]) -> (u32, i64) {
     match checked(words) {
         Ok(book) => (0, Solved::new(&book).least[0]),

@@ -123,6 +123,7 @@ fn assert_equal(book: &[i32]) {
         let ranked = number(kbest::rank(book, k, &mut a.costs, &mut a.plans), 0);
         assert_eq!(ranked, baseline::rank(book, k, &mut b.costs, &mut b.plans), "rank of {book:?}");
         assert!(a.costs == b.costs && a.plans == b.plans, "list of {book:?}");
+        assert_equal_values(book, &mut a.plans, ranked.1);
         let written = number(kbest::write(book, k, &mut a.record), 0);
         assert_eq!(written, baseline::write(book, k, &mut b.record), "write of {book:?}");
         assert!(a.record == b.record, "record of {book:?}");
@@ -135,6 +136,26 @@ fn assert_equal(book: &[i32]) {
             let accepted = kbest::accept(&record).map_or_else(|r| (r.number(), 0, 0), |x| (0, x.posts, x.listed));
             assert_eq!(accepted, baseline::accept(&record), "accept for {book:?}");
             assert!(no != 0 || at.is_some() || accepted.0 == 0);
+        }
+    }
+}
+
+/// S of an accepted book.
+fn posts(book: &[i32]) -> usize {
+    book[3..4 + book[1] as usize].iter().sum::<i32>() as usize
+}
+
+/// Values the plans of a list, each as listed and with one byte changed.
+fn assert_equal_values(book: &[i32], plans: &mut [u8], listed: usize) {
+    if listed == 0 {
+        return;
+    }
+    for plan in plans.chunks_mut(posts(book)).take(listed) {
+        for at in 0..plan.len() {
+            assert_eq!(number(kbest::value(book, plan), 0), baseline::value(book, plan), "value of {plan:?} in {book:?}");
+            plan[at] ^= 1;
+            assert_eq!(number(kbest::value(book, plan), 0), baseline::value(book, plan), "value of {plan:?} in {book:?}");
+            plan[at] ^= 1;
         }
     }
 }
@@ -217,6 +238,12 @@ fn write_rust(book: &[i32], room: &mut Room) -> usize {
     length
 }
 
+fn first_plan(book: &[i32]) -> Vec<u8> {
+    let mut room = Room::new();
+    rank_library(book, 1, &mut room);
+    room.plans[..posts(book)].to_vec()
+}
+
 fn check_library(book: &[i32]) -> bool {
     kbest::check(black_box(book)).is_ok()
 }
@@ -230,13 +257,15 @@ fn ratios(name: &str, book: &[i32]) {
     let (mut a, mut b) = (Room::new(), Room::new());
     let check = ratio(|| check_library(book), || check_rust(book));
     let least = ratio(|| kbest::least(black_box(book)), || baseline::least(black_box(book)));
+    let plan = first_plan(book);
+    let value = ratio(|| kbest::value(black_box(book), black_box(&plan)), || baseline::value(black_box(book), black_box(&plan)));
     let ranks: Vec<f64> = [1, 8, 64].iter().map(|&k| ratio(|| rank_library(book, k, &mut a), || rank_rust(book, k, &mut b))).collect();
     let write = ratio(|| write_library(book, &mut a), || write_rust(book, &mut b));
     let length = write_library(book, &mut a);
     let record = &a.record[..length];
     let accept = ratio(|| kbest::accept(black_box(record)), || baseline::accept(black_box(record)));
     println!(
-        "{name:28} {check:7.2} {least:7.2} {:8.2} {:8.2} {:8.2} {write:8.2} {accept:8.2}",
+        "{name:28} {check:7.2} {value:7.2} {least:7.2} {:8.2} {:8.2} {:8.2} {write:8.2} {accept:8.2}",
         ranks[0], ranks[1], ranks[2]
     );
 }
@@ -284,13 +313,15 @@ fn only(words: &[String], books: &[(&str, Vec<i32>)]) {
     let book = &books.iter().find(|(name, _)| name.starts_with(&words[1])).expect("a book of that name").1;
     let (k, repeats) = (words[2].parse().expect("K"), words[3].parse().expect("repeats"));
     let mut room = Room::new();
+    let plan = first_plan(book);
     for _ in 0..repeats {
         let answer = match words[0].as_str() {
             "check" => check_library(book) as usize,
+            "value" => kbest::value(black_box(book), black_box(&plan)).is_ok() as usize,
             "least" => kbest::least(black_box(book)).is_ok() as usize,
             "rank" => rank_library(book, k, &mut room),
             "rust" => rank_rust(book, k, &mut room),
-            _ => panic!("check, least, rank or rust"),
+            _ => panic!("check, value, least, rank or rust"),
         };
         black_box(answer);
     }
@@ -317,7 +348,7 @@ fn main() {
     println!("equal results on the timed books and {} small ones\n", assert_small_books(&mut rng));
 
     println!("library time / Rust time");
-    println!("{:28} {:>7} {:>7} {:>8} {:>8} {:>8} {:>8} {:>8}", "", "check", "least", "rank 1", "rank 8", "rank 64", "write 64", "accept");
+    println!("{:28} {:>7} {:>7} {:>7} {:>8} {:>8} {:>8} {:>8} {:>8}", "", "check", "value", "least", "rank 1", "rank 8", "rank 64", "write 64", "accept");
     for (name, book) in &books {
         ratios(&format!("{name}, {} lines", book[2]), book);
     }

@@ -4,6 +4,8 @@ Written from the document alone. It shares nothing with the proved program, and 
 of every plan is walked. Words below are those of the document.
 """
 
+import functools
+
 LONGEST_BOOK = 4172
 
 
@@ -149,10 +151,16 @@ def before(book, p, q):
     return False
 
 
+@functools.lru_cache(maxsize=8)
+def in_order(words):
+    """All plans of a book that passes 1 to 13, as (cost, plan), each before those that it comes before. The last books are kept."""
+    book = Book(list(words))
+    return sorted((plan_cost(book, plan), plan) for plan in plans(book))
+
+
 def ranking(words, k):
     """The list for a book that passes 1 to 13: (cost, plan) for each plan that fewer than k come before."""
-    book = Book(words)
-    return sorted((plan_cost(book, plan), plan) for plan in plans(book))[:k]
+    return in_order(tuple(words))[:k]
 
 
 def count_no(k):

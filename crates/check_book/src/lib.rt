@@ -114,7 +114,7 @@ fn costs_bounded(z: Sizes, largest: usize) -> bool
     requires { ⌜ (1 ≤ z .d) × (z .d ≤ 100) × (z .h ≤ 8) ⌝ }
     ensures { λ r. ⌜ r ≡ leb (z .d ^ z .h * (z .h + 1) * largest) 4000000000000000000 ⌝ }
 {
-    let unit = power::power(z.d, z.h) * (z.h as u64 + 1);
+    let unit = power::raised(z.d, z.h) * (z.h as u64 + 1);
     largest as u64 <= 4000000000000000000 / unit
 }
 

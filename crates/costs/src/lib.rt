@@ -43,7 +43,17 @@ fn expect(b: &[i32], at: usize, l: usize, r: usize, base: usize, v: &[i64; 64], 
     acc
 }
 
-// The cost of taking action c of state p, whose first line is line j, where v has the costs-to-go of the states after p.
+// What a cost at state p stands against: D to the stages still to come.
+pub fn unit(b: &[i32], z: Sizes, x: &[usize; 192], p: usize) -> usize
+    requires { ⌜ (bookNumber (now b) ≡ 0) × SizesAre (now b) z × IndexOf (now b) (now x) × (p < stateCount (now b)) ⌝ }
+    ensures { λ r. ⌜ r ≡ scale (now (b .entry)) ^ togo (now (b .entry)) p ⌝ }
+{
+    let m = x[128 + p];
+    power::raised(z.d, m) as usize
+}
+
+// The cost of taking action c of state p, whose first line is line j, where v has the costs-to-go of the states after p. The caller has the unit
+// of p for all its actions.
 pub fn action_cost(
     b: &[i32],
     z: Sizes,
@@ -51,17 +61,16 @@ pub fn action_cost(
     p: usize,
     c: usize,
     j: usize,
+    unit: usize,
     v: &[i64; 64],
 ) -> i64
-    requires { ⌜ (bookNumber (now b) ≡ 0) × SizesAre (now b) z × IndexOf (now b) (now x) × ActionAt (now b) p c j × Bounded (now b) p (now v) ⌝ }
+    requires { ⌜ (bookNumber (now b) ≡ 0) × SizesAre (now b) z × IndexOf (now b) (now x) × ActionAt (now b) p c j × (unit ≡ scale (now b) ^ togo (now b) p) × Bounded (now b) p (now v) ⌝ }
     ensures { λ r. ⌜ r ≡ actionCost (scale (now (b .entry))) (togo (now (b .entry)) p) (valueAt (now (v .entry))) (action (now (b .entry)) p c) ⌝ }
 {
     let at = 4 + z.h + z.s + j;
     let l = z.l;
     let r = book::size_at(b, at);
-    let m = x[128 + p];
     let base = x[64 + p];
-    let unit = power::power(z.d, m) as usize;
     let start = mul_add(0, unit, wide_at(b, at + l));
     expect(b, at + 1, l, r, base, v, start)
 }

@@ -3,8 +3,12 @@
 use mathlib.Core.Path.{_≡_}
 use mathlib.Core.List.{List}
 use Prim.Native.Nat.{ℕ, _+_, _<_}
+use lib.IntN.{ℤ, pos, natAbs}
 use lib.ListN.{length, getD}
 use Rattle.model.specs.Model.{Words, firstState, stateCount, stage, togo, stateLine}
+
+abbrev pub NotBelow0 : ℤ → Type 0
+NotBelow0 z = z ≡ pos (natAbs z)
 
 -- xs is the index of the states below n
 pub record IndexTo (ws : Words) (n : ℕ) (xs : List ℕ) : Type 0 where

@@ -4,17 +4,25 @@ use book::Stage;
 ghost use mathlib.Core.Path.{_≡_};
 ghost use Prim.Native.Nat.{_<_, _≤_};
 ghost use lib.ListN.{length};
-ghost use Rattle.model.specs.Model.{lineCount, stateCount, stateLine, actionCount, lineAfter, actionLine};
+ghost use Rattle.model.specs.Model.{word, left, lineCount, stateCount, stateLine, actionCount, lineAfter, actionLine};
 ghost use Rattle.model.specs.Questions.{bookNumber};
-ghost use Rattle.book.specs.Read.{SizesAre};
-ghost use Rattle.index.specs.Index.{IndexTo, IndexOf};
+ghost use Rattle.book.specs.Read.{SizeIs, SizesAre};
+ghost use Rattle.index.specs.Index.{NotBelow0, IndexTo, IndexOf};
 
-// The line after those of the action whose first line is line j.
+// Word i, which is not below 0.
+fn plain_at(b: &[i32], i: usize) -> usize
+    requires { ⌜ (i < length (now b)) × NotBelow0 (word (now b) i) ⌝ }
+    ensures { λ r. ⌜ SizeIs (word (now (b .entry)) i) r ⌝ }
+{
+    b[i] as usize
+}
+
+// The line after those of the action whose first line is line j. Each line waits for the one before it, so its sign is not looked at again.
 pub fn line_after(b: &[i32], z: Sizes, j: usize) -> usize
-    requires { ⌜ (bookNumber (now b) ≡ 0) × SizesAre (now b) z × (j < lineCount (now b)) ⌝ }
+    requires { ⌜ (bookNumber (now b) ≡ 0) × SizesAre (now b) z × (j < lineCount (now b)) × NotBelow0 (left (now b) j) ⌝ }
     ensures { λ r. ⌜ r ≡ lineAfter (now (b .entry)) j ⌝ }
 {
-    j + 1 + book::size_at(b, 4 + z.h + z.s + j)
+    j + 1 + plain_at(b, 4 + z.h + z.s + j)
 }
 
 // The first line of action c of state p, whose first line is `line`; for c = its number of actions, that of the next state.

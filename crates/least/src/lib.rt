@@ -19,9 +19,8 @@ pub fn least(b: &[i32]) -> LeastCost
     }
     let z = book::read_sizes(b);
     let x = index::index(b, z);
-    let t = table::make_table(b, z, &x);
-    LeastCost {
-        no: 0,
-        cost: t.v[0],
-    }
+    let mut q = table::zero_rows();
+    let mut v = table::zeros();
+    table::fill_table(b, z, &x, &mut q, &mut v);
+    LeastCost { no: 0, cost: v[0] }
 }

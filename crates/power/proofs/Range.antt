@@ -1,8 +1,9 @@
--- The powers of the table: what they are, and how large.
+-- The powers of the table: what they are, how large, and each from the one before.
 -- Assumes nothing.
 use mathlib.Core.Path.{_≡_, refl, _∙_}
-use Prim.Native.Nat.{ℕ, zero, suc, _^_, _≤_}
-use native.Mathlib.Nat.{le-trans, pow-le-pow-left, pow-le-pow-right}
+use Prim.Native.Nat.{ℕ, zero, suc, _+_, _*_, _^_, _≤_}
+use native.Mathlib.Nat.{le-trans, pow-suc, pow-le-pow-left, pow-le-pow-right}
+use native.Mathlib.Numerals.{add-one}
 use native.Mathlib.Omega.{arith}
 use borrow.Author.Tests.{le-leb}
 use lib.Dec.{lit≤}
@@ -14,7 +15,7 @@ power-is d h a b c = rw (le-leb 1 d a, le-leb d 100 b, le-leb h 8 c)
 
 one-pow : (h : ℕ) → 1 ^ h ≡ 1
 one-pow zero = refl
-one-pow (suc h) = native.Mathlib.Nat.pow-suc 1 h ∙ omega (arith, one-pow h)
+one-pow (suc h) = pow-suc 1 h ∙ omega (arith, one-pow h)
 
 pub power-high : (d h : ℕ) → d ≤ 100 → h ≤ 8 → d ^ h ≤ 10000000000000000
 power-high d h b c =
@@ -22,3 +23,7 @@ power-high d h b c =
 
 pub power-low : (d h : ℕ) → 1 ≤ d → 1 ≤ d ^ h
 power-low d h a = omega (arith, one-pow h, pow-le-pow-left {n = 1} {m = d} a h)
+
+-- one factor more
+pub power-next : (d i : ℕ) → d ^ i * d ≡ d ^ (i + 1)
+power-next d i = rw (add-one i, pow-suc d i)

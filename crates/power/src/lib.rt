@@ -1,5 +1,6 @@
-// Powers looked up in a table.
+// Powers: looked up in a table, or multiplied.
 ghost use mathlib.Core.Path.{_≡_};
+ghost use Prim.Native.Nat.{_^_, _≤_};
 ghost use Rattle.model.specs.Calls.{powerOf};
 
 // d^e, nine entries for each d from 1 to 100: those of e from 0 to 8.
@@ -921,4 +922,18 @@ pub fn power(d: usize, e: usize) -> u64
     }
     let at = (d - 1) * 9 + e;
     POWERS[at]
+}
+
+// d^e by multiplication: for passes that ask once per state, where a lookup, which first makes the table, would be most of the work.
+pub fn raised(d: usize, e: usize) -> u64
+    requires { ⌜ (d ≤ 100) × (e ≤ 8) ⌝ }
+    ensures { λ r. ⌜ r ≡ d ^ e ⌝ }
+{
+    let mut r: u64 = 1;
+    let mut i: usize = 0;
+    while i < e {
+        r = r * (d as u64);
+        i = i + 1;
+    }
+    r
 }

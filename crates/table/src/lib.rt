@@ -66,23 +66,24 @@ fn fill_row(b: &[i32], z: Sizes, x: &[usize; 192], p: usize, q: &mut [i64; 512],
     ensures { λ r. ⌜ Filled (now (b .entry)) p (now (v .entry)) (now (q .entry)) (now (q .exit)) ⌝ }
 {
     let n = index::count(b, z, p);
+    let unit = costs::unit(b, z, x, p);
     let mut j = x[p];
     let mut c: usize = 0;
     while c < n {
-        let y = costs::action_cost(b, z, x, p, c, j, v);
+        let y = costs::action_cost(b, z, x, p, c, j, unit, v);
         q[8 * p + c] = y;
         j = index::line_after(b, z, j);
         c = c + 1;
     }
 }
 
-fn zero_rows() -> [i64; 512]
+pub fn zero_rows() -> [i64; 512]
     ensures { λ r. ⌜ length r ≡ 512 ⌝ }
 {
     [0; 512]
 }
 
-fn zeros() -> [i64; 64]
+pub fn zeros() -> [i64; 64]
     ensures { λ r. ⌜ length r ≡ 64 ⌝ }
 {
     [0; 64]
@@ -97,6 +98,21 @@ fn least_of_row(q: &[i64; 512], p: usize, n: usize) -> i64
     q[8 * p + best]
 }
 
+// Fills q and v with the table of a checked book.
+pub fn fill_table(b: &[i32], z: Sizes, x: &[usize; 192], q: &mut [i64; 512], v: &mut [i64; 64])
+    requires { ⌜ (bookNumber (now b) ≡ 0) × SizesAre (now b) z × IndexOf (now b) (now x) × (length (now q) ≡ 512) × (length (now v) ≡ 64) ⌝ }
+    ensures { λ _. ⌜ TableOf (now (b .entry)) (now (q .exit)) (now (v .exit)) ⌝ }
+{
+    let mut p = z.s;
+    while 0 < p {
+        p = p - 1;
+        fill_row(b, z, x, p, q, v);
+        let n = index::count(b, z, p);
+        let y = least_of_row(q, p, n);
+        v[p] = y;
+    }
+}
+
 // The table of a checked book.
 pub fn make_table(b: &[i32], z: Sizes, x: &[usize; 192]) -> Table
     requires { ⌜ (bookNumber (now b) ≡ 0) × SizesAre (now b) z × IndexOf (now b) (now x) ⌝ }
@@ -104,13 +120,6 @@ pub fn make_table(b: &[i32], z: Sizes, x: &[usize; 192]) -> Table
 {
     let mut q = zero_rows();
     let mut v = zeros();
-    let mut p = z.s;
-    while 0 < p {
-        p = p - 1;
-        fill_row(b, z, x, p, &mut q, &v);
-        let n = index::count(b, z, p);
-        let y = least_of_row(&q, p, n);
-        v[p] = y;
-    }
+    fill_table(b, z, x, &mut q, &mut v);
     Table { q: q, v: v }
 }

@@ -31,7 +31,8 @@ fn state_cost(b: &[i32], z: Sizes, x: &[usize; 192], plan: &[u8], p: usize, v: &
     }
     let line = x[p];
     let j = index::action_line(b, z, p, line, c);
-    costs::action_cost(b, z, x, p, c, j, v)
+    let unit = costs::unit(b, z, x, p);
+    costs::action_cost(b, z, x, p, c, j, unit, v)
 }
 
 fn zeros() -> [i64; 64]

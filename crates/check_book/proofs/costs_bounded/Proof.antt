@@ -1,21 +1,20 @@
 -- The unit is d^h × (h + 1), which is at least 1 and fits.
 -- Assumes nothing.
-use mathlib.Core.Path.{_≡_, _∙_}
+use mathlib.Core.Path.{_≡_}
 use Prim.Native.Nat.{ℕ, _+_, _*_, _^_, _≤_}
 use native.Mathlib.Omega.{arith}
-use Rattle.power.proofs.Range.{power-is}
 use Rattle.check_book.proofs.Bound.{unit-high, unit-low, by-division}
 use borrow.Author.Needs.{needs}
 use Rattle.check_book.proofs.costs_bounded.Statement.{statement}
 use Rattle.check_book.proofs.costs_bounded.Tie as tie
 
-power-requires : tie.Need-power-requires
-power-requires c κs = search needs
+raised-requires : tie.Need-raised-requires
+raised-requires c κs = search needs
 
 add-unit : tie.Need-add-unit
 add-unit c = search needs
 
-module _ (c : tie.After-power) where
+module _ (c : tie.After-raised) where
   abbrev d : ℕ
   d = c .before .args .z .d
 
@@ -25,8 +24,8 @@ module _ (c : tie.After-power) where
   pre : (1 ≤ d) × (d ≤ 100) × (h ≤ 8)
   pre = c .before .pre
 
-  raised : c .power .result ≡ d ^ h
-  raised = c .power .ensures ∙ power-is d h (pre .0) (pre .1) (pre .2)
+  raised : c .raised .result ≡ d ^ h
+  raised = c .raised .ensures
 
 mul-unit : tie.Need-mul-unit
 mul-unit c = rw (raised c) (omega (arith, unit-high (d c) (h c) (pre c .0) (pre c .1) (pre c .2)))
@@ -41,4 +40,4 @@ returns c =
     (unit-low (d c) (h c) (pre c .0) (pre c .1) (pre c .2)))
 
 pub costs-bounded-spec : {M : Type 1} → statement M
-costs-bounded-spec = tie.close (tie.spec power-requires add-unit mul-unit div-result returns)
+costs-bounded-spec = tie.close (tie.spec raised-requires add-unit mul-unit div-result returns)

@@ -1,6 +1,5 @@
 -- The words read are the action's, and its cost with what is expected after it stays within the bound.
 -- Assumes nothing.
-use borrow.Author.Needs.{needs}
 use mathlib.Core.Path.{_≡_, refl, sym, ap, ap₂, _∙_, subst}
 use Prim.Native.Nat.{_+_, _*_, _^_, _≤_, _<_}
 use native.Mathlib.Nat.{le-trans}
@@ -9,8 +8,7 @@ use lib.IntN.{pos, natAbs, _+ℤ_, _*ℤ_}
 use lib.ListN.{length, getD}
 use Rattle.model.specs.Model.{Words, word, scale, firstState, stage, togo, branches, action}
 use Rattle.model.specs.Recursion.{expected}
-use Rattle.model.specs.Calls.{powerOf}
-use Rattle.power.proofs.Range.{power-is, power-high}
+use Rattle.power.proofs.Range.{power-high}
 use Rattle.accepted.specs.Facts.{accepted}
 use Rattle.book.proofs.Columns.{branches-are}
 use Rattle.costs.specs.Terms.{terms, absExpected, valueAt}
@@ -45,25 +43,21 @@ total : (s : tie.Start) →
     + absExpected (valueAt (s .args .v .now)) (action (ws s) (s .args .p) (s .args .c) .transitions)
     ≤ 4000000000000000000
 total s =
-    le-trans (within-most (ws s) (s .pre .0) (s .args .p) (s .args .c) (s .args .v .now) (s .pre .4))
+    le-trans (within-most (ws s) (s .pre .0) (s .args .p) (s .args .c) (s .args .v .now) (s .pre .5))
     (most-small (ws s) (s .pre .0) (s .args .p) (s .args .c) (s .args .p))
 
 -- what was read
-module _ (c : tie.After-power) where
+module _ (c : tie.After-base) where
   abbrev start : tie.Start
-  start = c .before .before .before .before .before .before
+  start = c .before .before .before .before
 
-  unit : c .power .result ≡ scale (ws start) ^ togo (ws start) (start .args .p)
-  unit =
-      let a = accepted (ws start) (start .pre .0) .sizes in
-      c .power .ensures
-      ∙ ap₂ powerOf (start .pre .1 .d-is) (start .pre .2 .to-go (start .args .p) (start .pre .3 .state))
-      ∙ power-is (scale (ws start)) (togo (ws start) (start .args .p)) (a .d-low) (a .d-high) (few start)
+  unit : start .args .unit ≡ scale (ws start) ^ togo (ws start) (start .args .p)
+  unit = start .pre .4
 
-  r-is : c .before .before .before .size-at .result ≡ branches (ws start) (start .args .j)
+  r-is : c .before .size-at .result ≡ branches (ws start) (start .args .j)
   r-is =
-      branches-are (ws start) (start .args .z) (start .pre .1) (start .args .j) (c .before .before .before .size-at .result)
-      (c .before .before .before .size-at .ensures .is)
+      branches-are (ws start) (start .args .z) (start .pre .1) (start .args .j) (c .before .size-at .result)
+      (c .before .size-at .ensures .is)
 
 cost : (c : tie.After-wide-at) →
     let s = start (c .before) in
@@ -72,16 +66,16 @@ cost c =
     let s = start (c .before) in
     cost-is (ws s) (s .pre .0) (s .args .z) (s .pre .1) (s .args .p) (s .args .c) (s .args .j) (s .pre .3) _ refl
 
-first : (c : tie.After-mul-add) → c .mul-add .result ≡ pos 0 +ℤ pos (c .before .before .power .result) *ℤ c .before .wide-at .result
+first : (c : tie.After-mul-add) → c .mul-add .result ≡ pos 0 +ℤ pos (start (c .before .before) .args .unit) *ℤ c .before .wide-at .result
 first c = rw (read64 (c .before .wide-at .result) (c .before .wide-at .ok)) at (c .mul-add .ensures)
 
-module _ (c : tie.After-power) where
+module _ (c : tie.After-base) where
   base : getD (start c .args .x .now) (64 + start c .args .p) 0 ≡ firstState (ws (start c)) (stage (ws (start c)) (start c .args .p) + 1)
   base = start c .pre .2 .base (start c .args .p) (start c .pre .3 .state)
 
   terms-is : let s = start c in
       terms (ws s) (4 + s .args .z .h + s .args .z .s + s .args .j + 1) (s .args .z .l) (getD (s .args .x .now) (64 + s .args .p) 0) 0
-      (c .before .before .before .size-at .result)
+      (c .before .size-at .result)
       ≡ action (ws s) (s .args .p) (s .args .c) .transitions
   terms-is =
       let s = start c in
@@ -99,38 +93,26 @@ add-at-3 c = let r = room (c .before .before) in omega arith
 size-at-requires : tie.Need-size-at-requires
 size-at-requires c κs = let r = room (c .before .before) in omega arith
 
-add-m : tie.Need-add-m
-add-m c = let r = room (c .before .before .before) in omega arith
-
-mul-m : tie.Need-mul-m
-mul-m c = let r = room (c .before .before .before) in omega arith
-
-element-copy-out-m : tie.Need-element-copy-out-m
-element-copy-out-m c = let r = room (c .before .before .before) in omega arith
-
 add-base : tie.Need-add-base
-add-base c = let r = room (c .before .before .before .before) in omega arith
+add-base c = let r = room (c .before .before .before) in omega arith
 
 mul-base : tie.Need-mul-base
-mul-base c = let r = room (c .before .before .before .before) in omega arith
+mul-base c = let r = room (c .before .before .before) in omega arith
 
 element-copy-out-base : tie.Need-element-copy-out-base
-element-copy-out-base c = let r = room (c .before .before .before .before) in omega arith
-
-power-requires : tie.Need-power-requires
-power-requires c κs = search needs
+element-copy-out-base c = let r = room (c .before .before .before) in omega arith
 
 add-wide-at : tie.Need-add-wide-at
-add-wide-at c = let r = room (c .before .before .before .before .before .before) in omega arith
+add-wide-at c = let r = room (start c) in omega arith
 
 wide-at-requires : tie.Need-wide-at-requires
-wide-at-requires c κs = let r = room (c .before .before .before .before .before .before) in omega arith
+wide-at-requires c κs = let r = room (start c) in omega arith
 
 mul-add-requires : tie.Need-mul-add-requires
 mul-add-requires c κs =
     let s = start (c .before) in
     rw (read64 (c .wide-at .result) (c .wide-at .ok)) (
-      start-small (c .before .power .result) _ (c .wide-at .result) _ _ (unit (c .before)) (c .wide-at .ensures ∙ cost c) (total s),
+      start-small (s .args .unit) _ (c .wide-at .result) _ _ (unit (c .before)) (c .wide-at .ensures ∙ cost c) (total s),
       omega (
         arith,
         unit (c .before),
@@ -139,7 +121,7 @@ mul-add-requires c κs =
     )
 
 add-expect : tie.Need-add-expect
-add-expect c = let r = room (c .before .before .before .before .before .before .before .before) in omega arith
+add-expect c = let r = room (start (c .before .before)) in omega arith
 
 expect-requires : tie.Need-expect-requires
 expect-requires c κs =
@@ -149,7 +131,7 @@ expect-requires c κs =
       readable (ws s) (s .pre .0) (s .args .z) (s .pre .1) (s .args .p) (s .args .c) (s .args .j) (s .pre .3) _ _ _ refl (r-is d) (base d),
       rw (read64 (c .mul-add .result) (c .mul-add .ok))
           (subst (λ us. natAbs (c .mul-add .result) + absExpected (valueAt (s .args .v .now)) us ≤ 4000000000000000000) (sym (terms-is d))
-          (start-rest (d .power .result) _ (c .before .wide-at .result) _ _ (unit d) (c .before .wide-at .ensures ∙ cost (c .before)) (total s)
+          (start-rest (s .args .unit) _ (c .before .wide-at .result) _ _ (unit d) (c .before .wide-at .ensures ∙ cost (c .before)) (total s)
           (c .mul-add .result) (first c))),
     )
 
@@ -161,7 +143,7 @@ returns c =
     (c .expect .ensures
     ∙ ap₂ _+ℤ_
     (read64 (c .before .mul-add .result) (c .before .mul-add .ok) ∙ first (c .before)
-    ∙ start-value (d .power .result) _ (c .before .before .wide-at .result) _ _ (unit d) (c .before .before .wide-at .ensures ∙ cost (c .before .before)) (total s))
+    ∙ start-value (s .args .unit) _ (c .before .before .wide-at .result) _ _ (unit d) (c .before .before .wide-at .ensures ∙ cost (c .before .before)) (total s))
     (ap (expected (valueAt (s .args .v .now))) (terms-is d)))
 
 pub action-cost-spec : {M : Type 1} → statement M
@@ -172,13 +154,9 @@ action-cost-spec =
     add-at-2
     add-at-3
     size-at-requires
-    add-m
-    mul-m
-    element-copy-out-m
     add-base
     mul-base
     element-copy-out-base
-    power-requires
     add-wide-at
     wide-at-requires
     mul-add-requires

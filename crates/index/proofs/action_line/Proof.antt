@@ -4,7 +4,7 @@ use mathlib.Core.Path.{_≡_, sym, ap, _∙_}
 use Prim.Native.Nat.{_-_, _≤_}
 use native.Mathlib.Omega.{arith}
 use Rattle.model.specs.Model.{lineAfter, actionLine}
-use Rattle.index.proofs.Lines.{line-start, line-next, first-inside}
+use Rattle.index.proofs.Lines.{line-start, line-next, first-inside, first-up}
 use borrow.Author.Needs.{needs}
 use Rattle.index.proofs.action_line.Statement.{statement}
 use Rattle.index.proofs.action_line.Tie as tie
@@ -25,6 +25,7 @@ line-after-requires c κs =
       s .pre .0,
       s .pre .1,
       omega (arith, l .loop .inv .1, first-inside (s .args .b .now) (s .pre .0) (s .args .p) (s .pre .2) (l .loop .d) (omega arith)),
+      rw (l .loop .inv .1) (first-up (s .args .b .now) (s .pre .0) (s .args .p) (s .pre .2) (l .loop .d) (omega arith)),
     )
 
 add-d : tie.Need-add-d Inv-loop μ-loop

@@ -33,22 +33,29 @@ read-sizes-requires : tie.Need-read-sizes-requires
 read-sizes-requires c κs = headed _ (good c)
 
 index-requires : tie.Need-index-requires
-index-requires c κs = (good (c .before), c .read-sizes .ensures)
+index-requires c κs = search needs
 
-make-table-requires : tie.Need-make-table-requires
-make-table-requires c κs = (good (c .before .before .before), c .before .before .read-sizes .ensures, c .before .index .ensures)
+zero-rows-requires : tie.Need-zero-rows-requires
+zero-rows-requires c κs = search needs
 
-element-copy-out-t12 : tie.Need-element-copy-out-t12
-element-copy-out-t12 c = search needs
+zeros-requires : tie.Need-zeros-requires
+zeros-requires c κs = search needs
+
+fill-table-requires : tie.Need-fill-table-requires
+fill-table-requires c κs = search needs
+
+array-copy-out-t17 : tie.Need-array-copy-out-t17
+array-copy-out-t17 c = search needs
 
 returns-2 : tie.Need-returns-2
 unfolding leastCostToGo
 returns-2 c =
-    let t = c .before .make-table in
-    let ok = good (c .before .before .before .before .before) in
-    let ws = c .before .before .before .before .before .before .before .args .b .now in (
+    let t = c .before .fill-table in
+    let e = c .before .before .before .before .before .before .before .before .before in
+    let ok = good e in
+    let ws = e .before .before .args .b .now in (
       sym ok,
-      read64 (getD (t .result .v) 0 (pos 0)) (c .t12 .given)
+      read64 (getD (t .last .1 .1 .1 .1 .0) 0 (pos 0)) (c .t17 .given)
           ∙ t .ensures .least-is 0 (omega arith) (shape ws ok .some-state)
           ∙ ap (λ m. leastToGo (scale ws) (action ws) (options ws) m 0) (togo-start ws ok)
           ∙ sym (least-call ws ok),
@@ -62,6 +69,8 @@ least-spec =
     returns
     read-sizes-requires
     index-requires
-    make-table-requires
-    element-copy-out-t12
+    zero-rows-requires
+    zeros-requires
+    fill-table-requires
+    array-copy-out-t17
     returns-2)

@@ -5,7 +5,7 @@ use Prim.Native.Nat.{_-_, _≤_, _<_}
 use native.Mathlib.Omega.{arith}
 use Rattle.model.specs.Model.{actionCount, lineAfter, actionLine}
 use Rattle.accepted.specs.Facts.{accepted}
-use Rattle.index.proofs.Lines.{line-start, line-next, first-inside}
+use Rattle.index.proofs.Lines.{line-start, line-next, first-inside, first-up}
 use Rattle.costs.proofs.Sums.{read64}
 use Rattle.table.specs.Table.{FilledTo}
 use Rattle.table.proofs.Rows.{filled-none, filled-more}
@@ -14,31 +14,34 @@ use Rattle.table.proofs.fill_row.Statement.{statement}
 use Rattle.table.proofs.fill_row.Tie as tie
 
 abbrev Inv-loop : tie.InvT-loop
-Inv-loop b z x p q₀ v n j₀ c₀ q j c =
+Inv-loop b z x p q₀ v n unit j₀ c₀ q j c =
     (c ≤ n) × (p < 64) × (n ≤ 8) × FilledTo b p c v q₀ q × (j ≡ actionLine b p c)
 
 abbrev μ-loop : tie.MeasureT-loop
-μ-loop b z x p q₀ v n j₀ c₀ q j c = n - c
+μ-loop b z x p q₀ v n unit j₀ c₀ q j c = n - c
 
 count-requires : tie.Need-count-requires Inv-loop μ-loop
 count-requires c κs = search needs
+
+unit-requires : tie.Need-unit-requires Inv-loop μ-loop
+unit-requires c κs = search needs
 
 state : (c : tie.After-count Inv-loop μ-loop) → c .before .args .p < 64
 state c = let s = c .before in omega (arith, s .pre .3, accepted (s .args .b .now) (s .pre .0) .sizes .s-high)
 
 mul-j : tie.Need-mul-j Inv-loop μ-loop
-mul-j c = omega (arith, state c)
+mul-j c = omega (arith, state (c .before))
 
 element-copy-out-j : tie.Need-element-copy-out-j Inv-loop μ-loop
-element-copy-out-j c = omega (arith, state c)
+element-copy-out-j c = omega (arith, state (c .before))
 
 loop-holds : tie.Need-loop-holds Inv-loop μ-loop
 loop-holds c =
-    let s = c .before .before in
+    let s = c .before .before .before in
     let ws = s .args .b .now in (
       omega arith,
-      state (c .before),
-      omega (arith, c .before .count .ensures, accepted ws (s .pre .0) .counts-high (s .args .p) (s .pre .3)),
+      state (c .before .before),
+      omega (arith, c .before .before .count .ensures, accepted ws (s .pre .0) .counts-high (s .args .p) (s .pre .3)),
       filled-none ws (s .args .p) (s .args .v .now) (s .args .q .now) (s .pre .5),
       s .pre .2 .line (s .args .p) (s .pre .3) ∙ sym (line-start ws (s .args .p)),
     )
@@ -46,11 +49,12 @@ loop-holds c =
 action-cost-requires : tie.Need-action-cost-requires Inv-loop μ-loop
 action-cost-requires c κs =
     let l = c .before in
-    let s = l .before .before .before in (
+    let s = l .before .before .before .before in (
       s .pre .0,
       s .pre .1,
       s .pre .2,
-      record { state = s .pre .3; action = omega (arith, l .before .before .count .ensures); line-is = l .loop .inv .4 },
+      record { state = s .pre .3; action = omega (arith, l .before .before .before .count .ensures); line-is = l .loop .inv .4 },
+      l .before .before .unit .ensures,
       s .pre .4,
     )
 
@@ -69,15 +73,17 @@ element-set-from-y c = omega arith
 line-after-requires : tie.Need-line-after-requires Inv-loop μ-loop
 line-after-requires c κs =
     let l = c .before .before in
-    let s = l .before .before .before in
+    let s = l .before .before .before .before in
     let ws = s .args .b .now in (
       s .pre .0,
       s .pre .1,
       omega (
         arith,
         l .loop .inv .4,
-        first-inside ws (s .pre .0) (s .args .p) (s .pre .3) (l .loop .c) (omega (arith, l .before .before .count .ensures)),
+        first-inside ws (s .pre .0) (s .args .p) (s .pre .3) (l .loop .c) (omega (arith, l .before .before .before .count .ensures)),
       ),
+      rw (l .loop .inv .4)
+          (first-up ws (s .pre .0) (s .args .p) (s .pre .3) (l .loop .c) (omega (arith, l .before .before .before .count .ensures))),
     )
 
 add-c : tie.Need-add-c Inv-loop μ-loop
@@ -89,7 +95,7 @@ loop-less c = search needs
 loop-again : tie.Need-loop-again Inv-loop μ-loop
 loop-again c =
     let l = c .before .before .before in
-    let s = l .before .before .before in
+    let s = l .before .before .before .before in
     let ws = s .args .b .now in
     let y = c .before .action-cost in
     rw (read64 (y .result) (y .ok)) (
@@ -104,9 +110,9 @@ loop-again c =
 returns : tie.Need-returns Inv-loop μ-loop
 returns c =
     let l = c .before in
-    let s = l .before .before .before in
+    let s = l .before .before .before .before in
     let ws = s .args .b .now in
-    let e : l .loop .c ≡ actionCount ws (s .args .p) = omega (arith, l .before .before .count .ensures) in
+    let e : l .loop .c ≡ actionCount ws (s .args .p) = omega (arith, l .before .before .before .count .ensures) in
     subst (λ n. FilledTo ws (s .args .p) n (s .args .v .now) (s .args .q .now) (l .loop .q)) e (l .loop .inv .3)
 
 pub fill-row-spec : {M : Type 1} → statement M
@@ -116,6 +122,7 @@ fill-row-spec =
     Inv-loop
     μ-loop
     count-requires
+    unit-requires
     mul-j
     element-copy-out-j
     loop-holds

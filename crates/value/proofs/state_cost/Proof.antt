@@ -63,20 +63,24 @@ action-line-requires c κs =
     let s = c .before .before .before .before in
     (s .pre .0, s .pre .1, s .pre .4, s .pre .2 .line (s .args .p) (s .pre .4), omega (arith, low (c .before)))
 
+unit-requires : tie.Need-unit-requires
+unit-requires c κs = let s = c .before .before .before .before .before in (s .pre .0, s .pre .1, s .pre .2, s .pre .4)
+
 action-cost-requires : tie.Need-action-cost-requires
 action-cost-requires c κs =
-    let s = c .before .before .before .before .before in (
+    let s = c .before .before .before .before .before .before in (
       s .pre .0,
       s .pre .1,
       s .pre .2,
-      record { state = s .pre .4; action = low (c .before .before); line-is = c .action-line .ensures },
+      record { state = s .pre .4; action = low (c .before .before .before); line-is = c .before .action-line .ensures },
+      c .unit .ensures,
       policy-bounded (ws s) (s .pre .0) (bs s) (s .args .p) (s .args .v .now) (s .pre .5),
     )
 
 returns-2 : tie.Need-returns-2
 unfolding taken
 returns-2 c =
-    let s = c .before .before .before .before .before .before in
+    let s = c .before .before .before .before .before .before .before in
     rw (read64 (c .action-cost .result) (c .action-cost .ok))
     (c .action-cost .ensures
     ∙ by-array (ws s) (s .pre .0) (λ q. costToGo (scale (ws s)) (taken (ws s) (bs s)) (togo (ws s) q) q) (s .args .p) _ (s .args .v .now) (s .pre .5)
@@ -94,5 +98,6 @@ state-cost-spec =
     mul-line
     element-copy-out-line
     action-line-requires
+    unit-requires
     action-cost-requires
     returns-2)

@@ -12,8 +12,8 @@ use Rattle.costs.proofs.Sums.{read64}
 use Rattle.table.specs.Table.{rowOf, TableFrom}
 use Rattle.table.proofs.Rows.{row-least, table-more}
 use borrow.Author.Needs.{needs}
-use Rattle.table.proofs.make_table.Statement.{statement}
-use Rattle.table.proofs.make_table.Tie as tie
+use Rattle.table.proofs.fill_table.Statement.{statement}
+use Rattle.table.proofs.fill_table.Tie as tie
 
 abbrev Inv-loop : tie.InvT-loop
 Inv-loop b z x q₀ v₀ p₀ q v p = (stateCount b ≤ 64) × (p ≤ stateCount b) × TableFrom b p q v
@@ -21,21 +21,14 @@ Inv-loop b z x q₀ v₀ p₀ q v p = (stateCount b ≤ 64) × (p ≤ stateCount
 abbrev μ-loop : tie.MeasureT-loop
 μ-loop b z x q₀ v₀ p₀ q v p = p
 
-zero-rows-requires : tie.Need-zero-rows-requires Inv-loop μ-loop
-zero-rows-requires c κs = search needs
-
-zeros-requires : tie.Need-zeros-requires Inv-loop μ-loop
-zeros-requires c κs = search needs
-
 loop-holds : tie.Need-loop-holds Inv-loop μ-loop
-loop-holds c =
-    let s = c .before .before in
+loop-holds s =
     let a = accepted (s .args .b .now) (s .pre .0) .sizes in (
       a .s-high,
       omega arith,
       record {
-        rows = c .before .zero-rows .ensures;
-        long = c .zeros .ensures;
+        rows = s .pre .3;
+        long = s .pre .4;
         through-is = λ p c l h k. absurd (omega arith);
         least-is = λ p l h. absurd (omega arith);
       },
@@ -47,7 +40,7 @@ sub-p c = search needs
 fill-row-requires : tie.Need-fill-row-requires Inv-loop μ-loop
 fill-row-requires c κs =
     let l = c .before .before .before in
-    let s = l .before .before .before in
+    let s = l .before in
     let ws = s .args .b .now in (
       s .pre .0,
       s .pre .1,
@@ -59,24 +52,24 @@ fill-row-requires c κs =
 
 count-requires : tie.Need-count-requires Inv-loop μ-loop
 count-requires c κs =
-    let s = c .before .before .before .before .before .before .before in
+    let s = c .before .before .before .before .before in
     (s .pre .0, s .pre .1, omega arith)
 
 least-of-row-requires : tie.Need-least-of-row-requires Inv-loop μ-loop
 least-of-row-requires c κs =
     let l = c .before .before .before .before .before .before in
-    let s = l .before .before .before in
+    let s = l .before in
     let a = accepted (s .args .b .now) (s .pre .0) in (
       omega arith,
       omega (arith, c .before .count .ensures, a .counts-low (l .loop .p - 1) (omega arith)),
       omega (arith, c .before .count .ensures, a .counts-high (l .loop .p - 1) (omega arith)),
     )
 
-mul-v : tie.Need-mul-v Inv-loop μ-loop
-mul-v c = omega arith
+mul-y : tie.Need-mul-y Inv-loop μ-loop
+mul-y c = omega arith
 
-array-set-from-v : tie.Need-array-set-from-v Inv-loop μ-loop
-array-set-from-v c = omega arith
+element-set-from-y : tie.Need-element-set-from-y Inv-loop μ-loop
+element-set-from-y c = omega arith
 
 loop-less : tie.Need-loop-less Inv-loop μ-loop
 loop-less c = omega arith
@@ -86,7 +79,7 @@ loop-again c =
     let y = c .least-of-row in
     let f = c .before .before .before in
     let l = f .before .before .before .before in
-    let s = l .before .before .before in
+    let s = l .before in
     let ws = s .args .b .now in
     let p = l .loop .p - 1 in
     let e : l .loop .p ≡ p + 1 = omega arith in
@@ -104,23 +97,21 @@ returns : tie.Need-returns Inv-loop μ-loop
 returns c =
     let l = c .before in
     let e : l .loop .p ≡ 0 = omega arith in
-    subst (λ n. TableFrom (l .before .before .before .args .b .now) n (l .loop .q) (l .loop .v)) e (l .loop .inv .2)
+    subst (λ n. TableFrom (l .before .args .b .now) n (l .loop .q) (l .loop .v)) e (l .loop .inv .2)
 
-pub make-table-spec : {M : Type 1} → statement M
-make-table-spec =
+pub fill-table-spec : {M : Type 1} → statement M
+fill-table-spec =
     tie.close
     (tie.spec
     Inv-loop
     μ-loop
-    zero-rows-requires
-    zeros-requires
     loop-holds
     sub-p
     fill-row-requires
     count-requires
     least-of-row-requires
-    mul-v
-    array-set-from-v
+    mul-y
+    element-set-from-y
     loop-less
     loop-again
     returns)

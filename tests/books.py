@@ -1,0 +1,399 @@
+"""Random books for the tests: good ones of many shapes, broken ones, and plans of them. All is drawn from the random.Random that is handed in."""
+
+import itertools
+
+import reference as ref
+
+MOST_PLANS = 4000
+MOST_WALKS = 60000
+WORST = 2 ** 31 - 1
+
+
+def build(scale, sizes, choices):
+    """The words of a book; choices[post] is a list of (cost, [(next post within its stage, weight)])."""
+    left, right = [], []
+    for here in choices:
+        for cost, nexts in here:
+            left += [len(nexts)] + [step for step, _ in nexts]
+            right += [cost] + [weight for _, weight in nexts]
+    return [scale, len(sizes) - 1, len(left)] + list(sizes) + [len(here) for here in choices] + left + right
+
+
+def most_cost(scale, stages):
+    """The largest cost that question 10 and question 13 allow."""
+    return min(100000, 4 * 10 ** 18 // (scale ** stages * (stages + 1)))
+
+
+def weights(rng, scale, r):
+    """r numbers from 1 on that sum to the scale."""
+    cuts = [0] + sorted(rng.sample(range(1, scale), r - 1)) + [scale]
+    return [b - a for a, b in zip(cuts, cuts[1:])]
+
+
+def nexts(rng, scale, size, r):
+    r = max(1, min(r, size, scale, 16))
+    return list(zip(sorted(rng.sample(range(size), r)), weights(rng, scale, r)))
+
+
+def stage_of(sizes):
+    return [n for n, size in enumerate(sizes) for _ in range(size)]
+
+
+def fill(rng, scale, sizes, most_choices, most_next, cost, budget):
+    """A book whose posts have together at most about `budget` plans."""
+    stage = stage_of(sizes)
+    counts = [1] * len(stage)
+    deciding = [post for post, n in enumerate(stage) if n < len(sizes) - 1]
+    rng.shuffle(deciding)
+    for post in deciding:
+        counts[post] = max(1, min(rng.randint(1, most_choices), budget))
+        budget //= counts[post]
+    choices = []
+    for post, n in enumerate(stage):
+        if n == len(sizes) - 1:
+            choices.append([(cost(rng), [])])
+        else:
+            choices.append([(cost(rng), nexts(rng, scale, sizes[n + 1], rng.randint(1, most_next))) for _ in range(counts[post])])
+    return build(scale, sizes, choices)
+
+
+def costs_within(rng, limit):
+    """How the costs of one book are drawn."""
+    low, high = rng.choice([(0, 3), (-3, 3), (0, 1000), (-1000, 1000), (-1000, -1), (-100000, 100000), (0, 100000), (7, 7)])
+    low, high = max(low, -limit), min(high, limit)
+    return lambda r: r.randint(low, high)
+
+
+def scale_of(rng):
+    return rng.choice([1, 2, 2, 3, 4, 5, 7, 10, 60, 99, 100, rng.randint(1, 100)])
+
+
+def random_sizes(rng, stages, most):
+    return [1] + [rng.randint(1, most) for _ in range(stages)]
+
+
+# ---- shapes
+
+def small(rng):
+    scale, stages = scale_of(rng), rng.randint(1, 3)
+    return fill(rng, scale, random_sizes(rng, stages, 3), 4, 3, costs_within(rng, most_cost(scale, stages)), rng.choice([4, 300, 10 ** 6]))
+
+
+def deep(rng):
+    scale, stages = scale_of(rng), rng.randint(5, 8)
+    return fill(rng, scale, random_sizes(rng, stages, 3), 3, 2, costs_within(rng, most_cost(scale, stages)), rng.choice([20, 2000, 10 ** 5]))
+
+
+def wide(rng):
+    scale, stages = scale_of(rng), rng.randint(1, 2)
+    sizes = random_sizes(rng, stages, rng.choice([4, 8, 16]))
+    return fill(rng, scale, sizes, 8, 16, costs_within(rng, most_cost(scale, stages)), rng.choice([8, 60, 1000]))
+
+
+def ties(rng):
+    """Few different costs, so that the order rests on the choices."""
+    scale, stages = rng.choice([1, 1, 2, 4]), rng.randint(2, 4)
+    few = rng.choice([(0,), (1, 1, 1, 2), (0, 1), (-1, 0, 1)])
+    return fill(rng, scale, random_sizes(rng, stages, 3), 4, 2, lambda r: r.choice(few), rng.choice([1000, 10 ** 6]))
+
+
+def few(rng):
+    """Fewer plans than most K."""
+    scale, stages = scale_of(rng), rng.randint(1, 8)
+    return fill(rng, scale, random_sizes(rng, stages, 2), 3, 2, costs_within(rng, most_cost(scale, stages)), rng.randint(1, 6))
+
+
+def unreached(rng):
+    """Most posts are not reached; those that are not have many choices."""
+    scale, stages = scale_of(rng), rng.randint(2, 5)
+    return fill(rng, scale, random_sizes(rng, stages, 8), 5, 1, costs_within(rng, most_cost(scale, stages)), 10 ** 6)
+
+
+def crossing(rng):
+    """Ways that part and meet again: a post is reached by several choices."""
+    scale, stages = rng.choice([2, 3, 10, 100]), rng.randint(3, 4)
+    return fill(rng, scale, [1] + [2] * stages, 3, 2, costs_within(rng, most_cost(scale, stages)), 10 ** 6)
+
+
+def many(rng):
+    """Thousands of plans, from which the first 64 are to be found."""
+    scale, stages = scale_of(rng), rng.randint(2, 6)
+    few = rng.random() < 0.4
+    cost = (lambda r: r.randint(0, 2)) if few else costs_within(rng, most_cost(scale, stages))
+    return fill(rng, scale, random_sizes(rng, stages, 4), 5, 3, cost, 10 ** 7)
+
+
+def edge(rng):
+    """The largest cost stands at question 13's edge, or one beyond it."""
+    pairs = [(d, h) for h in (7, 8) for d in range(1, 101) if most_cost(d, h) < 100000]
+    scale, stages = (100, 7) if rng.random() < 0.3 else rng.choice(pairs)    # 100^7 × 8 × 5,000 is the bound itself
+    limit = most_cost(scale, stages) + rng.choice([0, 0, 1])
+    found = rng.choice([limit, -limit])
+    draw = rng.choice([lambda r: found, lambda r: r.choice([found, -found]), lambda r: r.choice([found, 0, 1])])
+    return fill(rng, scale, random_sizes(rng, stages, 2), 2, 2, draw, 8)
+
+
+def split_up(rng, total, parts, most):
+    sizes = [1] * parts
+    while sum(sizes) < total:
+        n = rng.randrange(parts)
+        if sizes[n] < most:
+            sizes[n] += 1
+    return sizes
+
+
+def large(rng):
+    """64 posts and 2,048 lines. Two posts a stage can be reached, and have few choices; the others have all the lines that are left."""
+    stages = rng.randint(5, 8)
+    scale = rng.choice([16, 60, 100])
+    sizes = [1] + split_up(rng, 63, stages, 16)
+    cost = costs_within(rng, most_cost(scale, stages))
+    stage = stage_of(sizes)
+    first = [sum(sizes[:n]) for n in range(stages + 1)]
+    rows = []
+    budget = rng.choice([1, 16, 64])
+    for post, n in enumerate(stage):
+        if n == stages:
+            rows.append([0])
+        elif post - first[n] < 2:
+            count = max(1, min(rng.randint(1, 2), budget))
+            budget //= count
+            rows.append([min(rng.randint(1, 2), sizes[n + 1]) for _ in range(count)])
+        else:
+            rows.append([1])
+    free = [post for post, n in enumerate(stage) if n < stages and post - first[n] >= 2]
+    lines = sum(1 + r for row in rows for r in row)
+    for _ in range(20000):
+        if lines >= 2048 or not free:
+            break
+        post = rng.choice(free)
+        i = rng.randrange(len(rows[post]))
+        if len(rows[post]) < 8 and lines + 2 <= 2048 and rng.random() < 0.5:
+            rows[post].append(1)
+            lines += 2
+        elif rows[post][i] < min(16, sizes[stage[post] + 1], scale):
+            rows[post][i] += 1
+            lines += 1
+    choices = []
+    for post, n in enumerate(stage):
+        core = n < stages and post - first[n] < 2
+        reach = min(2, sizes[n + 1]) if core else (sizes[n + 1] if n < stages else 0)
+        choices.append([(cost(rng), nexts(rng, scale, reach, r) if r else []) for r in rows[post]])
+    return build(scale, sizes, choices)
+
+
+def full(rng):
+    """Every post reached, 16 to a stage, by 16 next posts a choice: few plans, thousands of days."""
+    sizes = [1, 16, 16, rng.choice([1, 16])]
+    scale = rng.choice([16, 17, 100])
+    return fill(rng, scale, sizes, 2, 16, costs_within(rng, most_cost(scale, 3)), rng.choice([1, 2, 8]))
+
+
+def vast(rng):
+    """64 posts and up to 2,048 lines, nearly all reached: far more plans than can be enumerated."""
+    while True:
+        stages, scale = rng.randint(4, 8), rng.choice([2, 3, 10, 60, 100])
+        any_cost = costs_within(rng, most_cost(scale, stages))
+        cost = rng.choice([lambda r: 0, lambda r: r.randint(0, 1), any_cost, any_cost])
+        words = fill(rng, scale, [1] + split_up(rng, 63, stages, 16), rng.randint(2, 8), rng.choice([2, 3, 6, 16]), cost, 10 ** 60)
+        if words[2] <= 2048:
+            return words
+
+
+SHAPES = [small, deep, wide, ties, few, unreached, crossing, edge]
+
+
+def days_at_most(words):
+    """The most days that a plan of an accepted book can have."""
+    book = ref.Book(words)
+    most = [0] * book.posts
+    for post in reversed(range(book.posts)):
+        most[post] = max(sum(most[step] for step, _ in book.next_posts(post, c)) or 1 for c in range(book.counts[post]))
+    return most[0]
+
+
+def feasible(words, plans=MOST_PLANS, walks=MOST_WALKS):
+    """Can the reference enumerate it? A book that it refuses costs nothing."""
+    if ref.check(words):
+        return True
+    most = min(plans, walks // days_at_most(words))
+    return count_plans(words, most) <= most
+
+
+def count_plans(words, most):
+    """How many plans an accepted book has, or most + 1."""
+    return sum(1 for _ in itertools.islice(ref.plans(ref.Book(words)), most + 1))
+
+
+def draw(rng, shape):
+    """A book of the shape that the reference can enumerate."""
+    if shape is many:
+        return draw_many(rng)
+    while True:
+        words = shape(rng)
+        if feasible(words):
+            return words
+
+
+def draw_many(rng):
+    """From 1,000 to 20,000 plans."""
+    while True:
+        words = many(rng)
+        if not ref.check(words) and days_at_most(words) <= 64 and 1000 <= count_plans(words, 20000) <= 20000:
+            return words
+
+
+# ---- broken books
+
+class Places:
+    """Where the words of an accepted book stand."""
+
+    def __init__(self, words):
+        book = ref.Book(words)
+        self.book, self.scale, self.stages, self.posts = book, book.scale, book.stages, book.posts
+        self.sizes = range(3, 4 + book.stages)
+        self.counts = range(4 + book.stages, 4 + book.stages + book.posts)
+        self.left = 4 + book.stages + book.posts
+        self.right = self.left + book.lines
+        self.heads, self.steps, self.last_heads = [], [], []
+        line = 0
+        for post in range(book.posts):
+            for _, rows in book.choices[post]:
+                (self.heads if rows else self.last_heads).append(line)
+                if rows:
+                    self.steps.append(range(line + 1, line + 1 + len(rows)))
+                line += 1 + len(rows)
+
+
+def break_1(rng, words, at):
+    del words[rng.randint(0, 2):]
+
+
+def break_2(rng, words, at):
+    words[0] = rng.choice([0, -1, 101, WORST, -WORST - 1, -at.scale])
+
+
+def break_3(rng, words, at):
+    words[1] = rng.choice([0, -1, 9, WORST, -WORST - 1])
+
+
+def break_4(rng, words, at):
+    words[2] = rng.choice([0, -1, 2049, WORST, -WORST - 1])
+
+
+def break_5(rng, words, at):
+    del words[rng.randint(3, 3 + at.stages):]
+
+
+def break_6(rng, words, at):
+    kind = rng.randrange(3)
+    if kind == 0:
+        words[3] = rng.choice([0, 2, -1, 64])
+    elif kind == 1:
+        words[rng.choice(at.sizes[1:])] = rng.choice([0, -1, 17, WORST, -WORST - 1])
+    else:
+        for i in at.sizes[1:]:
+            words[i] = 16 if at.stages >= 4 else 17
+
+
+def break_7(rng, words, at):
+    kind = rng.randrange(4)
+    if kind == 0:
+        words.append(rng.choice([0, 1, -1]))
+    elif kind == 1:
+        del words[rng.randint(4 + at.stages, len(words) - 1):]
+    elif kind == 2:
+        words[2] += rng.choice([1, -1]) if 1 < words[2] < 2048 else 0
+    else:
+        words[rng.choice(at.sizes[1:])] = rng.randint(1, 16)
+
+
+def break_8(rng, words, at):
+    if rng.random() < 0.3:
+        words[rng.choice(at.counts[-words[3 + at.stages]:])] = 2
+    else:
+        words[rng.choice(at.counts)] = rng.choice([0, -1, 9, WORST, -WORST - 1])
+
+
+def break_9(rng, words, at):
+    kind = rng.randrange(5)
+    if kind == 0:
+        words[at.left + rng.choice(at.heads)] = rng.choice([0, -1, 17, WORST, -WORST - 1])
+    elif kind == 1:
+        words[at.left + rng.choice(at.last_heads)] = rng.choice([1, -1, WORST])
+    elif kind == 2:
+        words[at.left + rng.choice(at.heads)] += rng.choice([1, -1])
+    elif kind == 3:
+        post = rng.randrange(at.posts - at.book.sizes[at.stages])
+        words[at.counts[post]] = words[at.counts[post]] % 8 + 1
+    elif words[2] < 2048:
+        words[2] += 1
+        words.insert(at.right, rng.choice([0, 0, 1]))
+        words.append(rng.choice([0, 1]))
+
+
+def break_10(rng, words, at):
+    words[at.right + rng.choice(at.heads + at.last_heads)] = rng.choice([100001, -100001, WORST, -WORST - 1])
+
+
+def break_11(rng, words, at):
+    rows = rng.choice(at.steps)
+    kind = rng.randrange(3)
+    if kind == 0:
+        words[at.left + rows[-1]] = rng.choice([16, 17, -1, WORST, -WORST - 1])
+    elif kind == 1 and len(rows) > 1:
+        words[at.left + rows[1]] = words[at.left + rows[0]]
+    else:
+        words[at.left + rng.choice(rows)] += rng.choice([1, -1])
+
+
+def break_12(rng, words, at):
+    rows = rng.choice(at.steps)
+    line = at.right + rng.choice(rows)
+    words[line] = rng.choice([0, -1, at.scale + 1, words[line] + 1, words[line] - 1, WORST, -WORST - 1])
+
+
+def break_13(rng, words, at):
+    """Costs that may be too large for the scale and the stages; the scale and all weights are left."""
+    words[at.right + rng.choice(at.heads + at.last_heads)] = rng.choice([1, -1]) * min(100000, most_cost(at.scale, at.stages) + 1)
+
+
+BREAKS = [break_1, break_2, break_3, break_4, break_5, break_6, break_7, break_8, break_9, break_10, break_11, break_12, break_13]
+
+
+def broken(rng, words, faults):
+    """The book with each fault of the list, those that change the length last."""
+    at, words = Places(words), list(words)
+    for fault in sorted(faults, key=lambda f: (f in (break_7, break_5, break_1), f.__name__)):
+        try:
+            fault(rng, words, at)
+        except (IndexError, ValueError):
+            pass
+    return words
+
+
+def wild(rng):
+    """Words that are no book, or nearly one."""
+    kind = rng.randrange(3)
+    if kind == 0:
+        return [rng.randint(-WORST - 1, WORST) for _ in range(rng.randrange(12))]
+    if kind == 1:
+        return [rng.randint(0, 3) for _ in range(rng.randrange(40))]
+    return [2, 1, 7] + [rng.randint(0, 3) for _ in range(19)]
+
+
+# ---- plans and slices that are none
+
+def bent_plan(rng, words, plan):
+    """A plan with a fault, or by chance another plan."""
+    plan = list(plan)
+    kind = rng.randrange(5)
+    if kind == 0:
+        return plan[:-1]
+    if kind == 1:
+        return plan + [rng.choice([0, 255])]
+    if kind == 2:
+        return [0 if c == 255 else c for c in plan]
+    i = rng.randrange(len(plan))
+    plan[i] = rng.choice([255, 0, 1, 8, 254, ref.Book(words).counts[i]])
+    return plan

@@ -1,0 +1,67 @@
+#!/usr/bin/env python3
+"""Fresh random cases, for as long as one likes, to the proved program and to reference.py.
+
+    tests/fresh.py [SECONDS] [SEED] [PRINTING PROGRAM]     by default 60 seconds and a seed that is drawn
+
+Builds the program `cases` first (rt check cases). Stops at the first difference and prints the seed, the case and what came; exit status 1.
+With a printing program, pages are compared too. `tests/cases.py show SEED N` prints a case again.
+"""
+
+import os
+import subprocess
+import sys
+import time
+
+import cases
+import pages
+
+ROOT = os.path.join(os.path.dirname(os.path.abspath(__file__)), '..')
+PROGRAM = os.path.join(ROOT, 'target', 'bin', 'cases')
+AT_ONCE = 40
+
+
+def run(data):
+    try:
+        return subprocess.run([PROGRAM], input=data, stdout=subprocess.PIPE, timeout=600).stdout.decode('latin-1')
+    except subprocess.TimeoutExpired as late:
+        return (late.stdout or b'').decode('latin-1') + 'no end after 600 seconds\n'
+
+
+def compare(seed, numbers):
+    """None, or the first case whose output differs, as (number, what came)."""
+    made = [cases.fresh(seed, n) for n in numbers]
+    if run(cases.encoded(made)) == cases.expected(made):
+        return None
+    for n, case in zip(numbers, made):
+        got = run(cases.encoded([case]))
+        if got != cases.expected([case]):
+            return n, got
+    return numbers[0], 'cases %d to %d differ only if they are run together\n' % (numbers[0], numbers[-1])
+
+
+def main(args):
+    seconds = float(args[0]) if args else 60
+    seed = args[1] if len(args) > 1 else str(int.from_bytes(os.urandom(4), 'little'))
+    if subprocess.run(['rt', 'check', 'cases'], cwd=ROOT, stdout=subprocess.DEVNULL).returncode:
+        print('rt check cases fails')
+        return 1
+    print('seed %s' % seed, flush=True)
+    end, n, page = time.monotonic() + seconds, 0, 0
+    while time.monotonic() < end:
+        found = compare(seed, range(n, n + AT_ONCE))
+        if found:
+            print('case %d of seed %s differs\n%sgot\n%s' % (found[0], seed, cases.describe(cases.fresh(seed, found[0])), found[1]))
+            return 1
+        n += AT_ONCE
+        for _ in range(AT_ONCE if len(args) > 2 else 0):
+            found = pages.differs(args[2], seed, page)
+            if found:
+                pages.report(seed, page, found)
+                return 1
+            page += 1
+    print('%d cases and %d pages are equal' % (n, page))
+    return 0
+
+
+if __name__ == '__main__':
+    sys.exit(main(sys.argv[1:]))

@@ -1,0 +1,86 @@
+"""The first K plans of a book that has too many plans to enumerate: the method of docs/FORMAT.md, "Is a plan missing?", row by row.
+
+reference.py is the rule; this is compared with it on every book that can be enumerated (tests/test_search.py), and used only for those that cannot.
+"""
+
+import contextlib
+import heapq
+
+import reference as ref
+
+
+def numbers(book, row):
+    """For each post its cost to the end over D^(H - n): by the row's choice where the row has come to the post, by its best choice after."""
+    found = [0] * book.posts
+    for post in reversed(range(book.posts)):
+        rest = book.scale ** (book.stages - book.stage[post])
+        made = row[post:post + 1] or range(book.counts[post])
+        found[post] = min((book.choices[post][c][0] * rest + sum(weight * found[step] for step, weight in book.next_posts(post, c))
+                           for c in made if c != 255), default=0)
+    return found
+
+
+def reached(book, row):
+    """Is the post after the row reached?"""
+    marks = {0}
+    for post, choice in enumerate(row):
+        if choice != 255:
+            marks.update(step for step, _ in book.next_posts(post, choice))
+    return len(row) in marks
+
+
+def grown(book, row):
+    """The row up to the next post that has more than one choice, or its end."""
+    while len(row) < book.posts:
+        if not reached(book, row):
+            row += (255,)
+        elif book.counts[len(row)] == 1:
+            row += (0,)
+        else:
+            break
+    return row
+
+
+def first(words, k):
+    """As reference.ranking. Rows are taken by their least cost, then in order of their choices, so whole rows come out in the order of plans."""
+    book, out = ref.Book(words), []
+    start = grown(book, ())
+    rows = [(numbers(book, start)[0], start)]
+    while rows and len(out) < k:
+        cost, row = heapq.heappop(rows)
+        if len(row) == book.posts:
+            out.append((cost, row))
+            continue
+        for choice in range(book.counts[len(row)]):
+            longer = grown(book, row + (choice,))
+            heapq.heappush(rows, (numbers(book, longer)[0], longer))
+    return out
+
+
+def is_plan(book, slice_):
+    if len(slice_) != book.posts:
+        return False
+    return all((choice < book.counts[post]) if reached(book, tuple(slice_[:post])) else choice == 255 for post, choice in enumerate(slice_))
+
+
+def plan_cost(book, plan):
+    return numbers(book, tuple(plan))[0]
+
+
+@contextlib.contextmanager
+def instead_of_enumeration():
+    """The calls of reference.py, over this search."""
+    kept, last = (ref.ranking, ref.is_plan, ref.plan_cost), {}
+
+    def ranking(words, k):
+        key = tuple(words)
+        if key not in last or len(last[key]) < k:
+            last.clear()
+            last[key] = first(words, k)
+        return last[key][:k]
+
+    ref.ranking, ref.is_plan, ref.plan_cost = ranking, is_plan, plan_cost
+    try:
+        yield
+    finally:
+        ref.ranking, ref.is_plan, ref.plan_cost = kept

@@ -1,0 +1,299 @@
+#!/usr/bin/env python3
+"""Turns tour books between their text form and their binary form, and shows a filed record as text. docs/FORMAT.md describes all three.
+
+    tools/book.py to-binary [--count K] book.txt > book.bin     with --count, K stands in front, as the printing program reads it
+    tools/book.py to-text book.bin > book.txt
+    tools/book.py record-to-text record.bin
+
+A file named - is standard input. Nothing is judged: whether a book or a record is accepted is for the program to say. What has no
+other form is refused with the reason, and for text the number of the line, on standard error, and exit status 1.
+"""
+
+import argparse
+import re
+import sys
+
+LOW, HIGH = -2 ** 31, 2 ** 31 - 1
+FORMS = {
+    'scale': 'scale NUMBER',
+    'stage': 'stage NUMBER',
+    'post': 'post NUMBER',
+    'choice': 'choice NUMBER cost NUMBER',
+    'next': 'next NUMBER weight NUMBER',
+    'words': 'words NUMBER ..',
+}
+PLACES = 12
+
+
+class Refused(Exception):
+    pass
+
+
+def refuse(line, reason):
+    raise Refused('line %d: %s' % (line, reason))
+
+
+# ---- text to words
+
+def number(line, text):
+    if not re.fullmatch('-?[0-9]+', text):
+        refuse(line, '"%s" is not a whole number' % text)
+    value = int(text)
+    if not LOW <= value <= HIGH:
+        refuse(line, '%s does not fit 32 bits' % text)
+    return value
+
+
+def fields(line, parts):
+    """The numbers of a line, whose other words must be those of its form."""
+    form = FORMS[parts[0]].split()
+    if form[-1] == '..':
+        return [number(line, part) for part in parts[1:]]
+    if len(parts) != len(form) or any(a != b for a, b in zip(form, parts) if a != 'NUMBER'):
+        refuse(line, 'expected "%s"' % FORMS[parts[0]])
+    return [number(line, part) for a, part in zip(form, parts) if a == 'NUMBER']
+
+
+class Reader:
+    """What the lines say so far: the scale, and stages of posts of choices, each choice [cost, [(next post, weight)]]. Or plain words."""
+
+    def __init__(self):
+        self.scale, self.stages, self.posts, self.words = None, [], 0, None
+
+    def due(self, line, name, given, count):
+        if given != count:
+            refuse(line, '%s %d is written where %s %d is due' % (name, given, name, count))
+
+    def inner(self, line, name, outer, row):
+        if not row:
+            refuse(line, 'a line "%s" before the first line "%s"' % (name, outer))
+        return row[-1]
+
+    def post(self, line, name):
+        return self.inner(line, name, 'post', self.inner(line, name, 'stage', self.stages))
+
+    def take(self, line, parts):
+        name = parts[0]
+        if name not in FORMS:
+            refuse(line, 'unknown word "%s"' % name)
+        values = fields(line, parts)
+        begun = self.stages or self.scale is not None
+        if begun if name == 'words' else self.words is not None:
+            refuse(line, 'lines "words" stand in a book alone')
+        getattr(self, 'take_' + name)(line, *([values] if name == 'words' else values))
+
+    def take_scale(self, line, value):
+        if self.scale is not None:
+            refuse(line, 'a second line "scale"')
+        self.scale = value
+
+    def take_stage(self, line, n):
+        self.due(line, 'stage', n, len(self.stages))
+        self.stages.append([])
+
+    def take_post(self, line, n):
+        stage = self.inner(line, 'post', 'stage', self.stages)
+        self.due(line, 'post', n, self.posts)
+        stage.append([])
+        self.posts += 1
+
+    def take_choice(self, line, n, cost):
+        post = self.post(line, 'choice')
+        self.due(line, 'choice', n, len(post))
+        post.append([cost, []])
+
+    def take_next(self, line, step, weight):
+        self.inner(line, 'next', 'choice', self.post(line, 'next'))[1].append((step, weight))
+
+    def take_words(self, line, values):
+        self.words = (self.words or []) + values
+
+    def book(self, line):
+        """The words, once the text has ended before this line."""
+        if self.words is not None:
+            return self.words
+        if self.scale is None:
+            refuse(line, 'the text ends without a line "scale"')
+        if not self.stages:
+            refuse(line, 'the text ends without a line "stage"')
+        posts = [post for stage in self.stages for post in stage]
+        left, right = [], []
+        for post in posts:
+            for cost, nexts in post:
+                left += [len(nexts)] + [step for step, _ in nexts]
+                right += [cost] + [weight for _, weight in nexts]
+        sizes = [len(stage) for stage in self.stages]
+        return [self.scale, len(self.stages) - 1, len(left)] + sizes + [len(post) for post in posts] + left + right
+
+
+def words_of_text(data):
+    reader, line = Reader(), 0
+    for line, raw in enumerate(data.split(b'\n'), 1):
+        try:
+            text = raw.decode('utf-8')
+        except UnicodeDecodeError:
+            refuse(line, 'not UTF-8 text')
+        parts = text.split('#')[0].split()
+        if parts:
+            reader.take(line, parts)
+    return reader.book(line)
+
+
+def bytes_of_words(words):
+    return b''.join(word.to_bytes(4, 'little', signed=True) for word in words)
+
+
+def to_binary(data, count=None):
+    front = b'' if count is None else count.to_bytes(4, 'little')
+    return front + bytes_of_words(words_of_text(data))
+
+
+# ---- words to text
+
+def words_of_bytes(data):
+    return [int.from_bytes(data[i:i + 4], 'little', signed=True) for i in range(0, len(data), 4)]
+
+
+def taken_apart(words):
+    """(scale, stages as a Reader holds them), or None if the words do not divide so, whatever the numbers are."""
+    if len(words) < 3:
+        return None
+    scale, last, lines = words[:3]
+    sizes = words[3:4 + last] if last >= 0 else []
+    if len(sizes) != last + 1 or not sizes or min(sizes) < 0:
+        return None
+    posts = sum(sizes)
+    if lines < 0 or len(words) != 4 + last + posts + 2 * lines:
+        return None
+    counts = words[4 + last:4 + last + posts]
+    left, right = words[4 + last + posts:4 + last + posts + lines], words[4 + last + posts + lines:]
+    line, row = 0, []
+    for count in counts:
+        post = []
+        for _ in range(count):
+            if line >= lines or left[line] < 0 or line + left[line] >= lines:
+                return None
+            end = line + 1 + left[line]
+            post.append([right[line], list(zip(left[line + 1:end], right[line + 1:end]))])
+            line = end
+        if count < 0:
+            return None
+        row.append(post)
+    if line != lines:
+        return None
+    starts = [sum(sizes[:n]) for n in range(len(sizes))]
+    return scale, [row[start:start + size] for start, size in zip(starts, sizes)]
+
+
+def next_line(step, weight, first, later):
+    """The comment gives the next post's number through the stages, where there is such a post."""
+    note = '    # post %d' % (first + step) if later and 0 <= step < len(later[0]) else ''
+    return '      next %d weight %d' % (step, weight) + note
+
+
+def text_of_words(words):
+    apart = taken_apart(words)
+    if apart is None:
+        rows = [words[i:i + 16] for i in range(0, len(words), 16)] or [[]]
+        return ''.join(' '.join(['words'] + [str(word) for word in row]) + '\n' for row in rows)
+    scale, stages = apart
+    out, first = ['scale %d' % scale], 0
+    for n, stage in enumerate(stages):
+        out.append('\nstage %d' % n)
+        for i, post in enumerate(stage):
+            out.append('  post %d' % (first + i))
+            for c, (cost, nexts) in enumerate(post):
+                out.append('    choice %d cost %d' % (c, cost))
+                out += [next_line(step, weight, first + len(stage), stages[n + 1:]) for step, weight in nexts]
+        first += len(stage)
+    return '\n'.join(out) + '\n'
+
+
+def to_text(data):
+    if len(data) % 4:
+        raise Refused('the file has %d bytes, which is not a multiple of 4' % len(data))
+    return text_of_words(words_of_bytes(data))
+
+
+# ---- records
+
+def decimal(top, bottom):
+    """top / bottom in base ten, to 12 places; 'about' says that it is rounded."""
+    scaled, rest = divmod(abs(top) * 10 ** PLACES, bottom)
+    scaled += 2 * rest >= bottom
+    whole, part = divmod(scaled, 10 ** PLACES)
+    digits = ('%012d' % part).rstrip('0')
+    return ('about ' if rest else '') + ('-' if top < 0 and scaled else '') + str(whole) + ('.' + digits if digits else '')
+
+
+def plan_lines(rank, cost, whole, plan):
+    yield '# plan %d: cost %d / %d = %s' % (rank, cost, whole, decimal(cost, whole))
+    for post, choice in enumerate(plan):
+        if choice != 255:
+            yield '#   post %d choice %d' % (post, choice)
+
+
+def record_to_text(data):
+    if len(data) < 12:
+        raise Refused('the file has %d bytes, and a record begins with 12' % len(data))
+    w, most, k = (int.from_bytes(data[i:i + 4], 'little') for i in (0, 4, 8))
+    if len(data) < 12 + 4 * w:
+        raise Refused('the record says that its book has %d words, and only %d bytes follow' % (w, len(data) - 12))
+    words = words_of_bytes(data[12:12 + 4 * w])
+    apart = taken_apart(words)
+    if apart is None:
+        raise Refused('the words of the book do not divide into stages, posts and choices')
+    scale, stages = apart
+    whole, posts, at = scale ** (len(stages) - 1), sum(len(stage) for stage in stages), 12 + 4 * w
+    if whole < 1:
+        raise Refused('D^H is %d' % whole)
+    if len(data) != at + 8 * k + k * posts:
+        raise Refused('after the book there are %d bytes, and %d plans of %d posts take %d' % (len(data) - at, k, posts, 8 * k + k * posts))
+    out = ['# a record: a book of %d words, K = %d, k = %d' % (w, most, k), '']
+    out.append(text_of_words(words))
+    for j in range(k):
+        cost = int.from_bytes(data[at + 8 * j:at + 8 * j + 8], 'little', signed=True)
+        start = at + 8 * k + j * posts
+        out += plan_lines(j + 1, cost, whole, data[start:start + posts])
+    return '\n'.join(out) + '\n'
+
+
+# ---- the command
+
+def unsigned(text):
+    if not re.fullmatch('[0-9]+', text) or int(text) >= 2 ** 32:
+        raise argparse.ArgumentTypeError('%s is not a number of 32 bits without a sign' % text)
+    return int(text)
+
+
+def arguments():
+    parser = argparse.ArgumentParser(description='Tour books and records as text.')
+    commands = parser.add_subparsers(dest='command', required=True)
+    for name in ('to-binary', 'to-text', 'record-to-text'):
+        command = commands.add_parser(name)
+        command.add_argument('file')
+        if name == 'to-binary':
+            command.add_argument('--count', type=unsigned, metavar='K')
+    return parser
+
+
+def main():
+    given = arguments().parse_args()
+    try:
+        if given.file == '-':
+            data = sys.stdin.buffer.read()
+        else:
+            with open(given.file, 'rb') as f:
+                data = f.read()
+        if given.command == 'to-binary':
+            sys.stdout.buffer.write(to_binary(data, given.count))
+        else:
+            sys.stdout.write(to_text(data) if given.command == 'to-text' else record_to_text(data))
+    except (Refused, OSError) as reason:
+        print('%s: %s' % (given.file, getattr(reason, 'strerror', None) or reason), file=sys.stderr)
+        return 1
+    return 0
+
+
+if __name__ == '__main__':
+    sys.exit(main())
