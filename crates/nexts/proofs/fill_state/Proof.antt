@@ -5,7 +5,7 @@ use Prim.Native.Nat.{_-_, _≤_, _<_}
 use native.Mathlib.Omega.{arith}
 use Rattle.model.specs.Model.{actionCount, lineAfter, actionLine}
 use Rattle.accepted.specs.Facts.{accepted}
-use Rattle.index.proofs.Lines.{line-start, line-next, first-inside}
+use Rattle.index.proofs.Lines.{line-start, line-next, first-inside, first-up}
 use Rattle.nexts.specs.Nexts.{NextsTo}
 use Rattle.nexts.proofs.Rows.{one-more}
 use borrow.Author.Needs.{needs}
@@ -72,6 +72,7 @@ line-after-requires c κs =
         l .loop .inv .4,
         first-inside ws (s .pre .0) (s .args .p) (s .pre .3) (l .loop .c) (omega (arith, l .before .before .count .ensures)),
       ),
+      rw (l .loop .inv .4) (first-up ws (s .pre .0) (s .args .p) (s .pre .3) (l .loop .c) (omega (arith, l .before .before .count .ensures))),
     )
 
 add-c : tie.Need-add-c Inv-loop μ-loop
