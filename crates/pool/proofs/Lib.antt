@@ -3,3 +3,4 @@ pub mod Moves
 pub mod Rows
 pub mod Insertion
 pub mod Removal
+pub mod Alone

@@ -16,6 +16,11 @@ use Rattle.pool.specs.declared.Pool.{Pool}
 
 -- ---- entries
 
+-- the pool of these arrays, of which n wait
+abbrev pub poolOf : List ℤ → List ℕ → List ℕ → List ℕ → List ℕ → ℕ → Pool
+poolOf costs plans splits barred order n =
+    record { costs = costs; plans = plans; splits = splits; barred = barred; order = order; count = n }
+
 -- the s bytes of a slot
 abbrev pub row : ℕ → List ℕ → ℕ → List ℕ
 row s plans j = take s (drop (j * 64) plans)
