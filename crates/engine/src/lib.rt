@@ -43,7 +43,8 @@ fn zeros() -> [u8; 64]
     [0; 64]
 }
 
-// The child d of the policy `plan` joins those that wait: it splits at state p. Gives how many wait then.
+// The child d of the policy `plan` joins those that wait: it splits at state p. Gives how many wait then. The bytes of a child that costs more than the
+// last of k that wait are not needed.
 fn add_child(
     b: &[i32],
     z: Sizes,
@@ -63,6 +64,9 @@ fn add_child(
     requires { ⌜ (bookNumber (now b) ≡ 0) × SizesAre (now b) z × IndexOf (now b) (now x) × BestOf (now b) (now best) × Usable (now b) (now plan) p × (p < stateCount (now b)) × (d .action < actionCount (now b) p) × Waiting k (poolOf (now cs) (now ps) (now ss) (now ms) (now os) n) ⌝ }
     ensures { λ r. ⌜ Waiting k (poolOf (now (cs .exit)) (now (ps .exit)) (now (ss .exit)) (now (ms .exit)) (now (os .exit)) r) × (entries (stateCount (now (b .entry))) (poolOf (now (cs .exit)) (now (ps .exit)) (now (ss .exit)) (now (ms .exit)) (now (os .exit)) r) ≡ joined k (childOf (now (b .entry)) (now (plan .entry)) p d) (entries (stateCount (now (b .entry))) (poolOf (now (cs .entry)) (now (ps .entry)) (now (ss .entry)) (now (ms .entry)) (now (os .entry)) n))) ⌝ }
 {
+    if pool::beyond(cs, os, n, k, d.cost) {
+        return n;
+    }
     let s = z.s;
     let mut row = zeros();
     build::build(b, z, x, best, plan, p, d.action, &mut row[..s]);

@@ -10,6 +10,7 @@ use lib.Seq.{getD-set-same, paste}
 use Rattle.stored.specs.Entry.{Entry}
 use Rattle.pool.specs.declared.Pool.{Pool}
 use Rattle.pool.specs.Entries.{poolOf, entryAt, entries, Slots, Formed}
+use Rattle.pool.proofs.Ascent.{ascends-one}
 use Rattle.pool.proofs.Moves.{slot-low}
 use Rattle.pool.proofs.Rows.{written-long, row-same}
 
@@ -27,17 +28,6 @@ module _ (s : ℕ) (short : s ≤ 64) (o : List ℕ) (slots : Slots o) (x : ℤ)
   low : j < 64
   low = slot-low slots 0 (omega arith)
 
-  pub alone-formed : Formed alone
-  alone-formed =
-      record {
-        costs-long = length-set (replicate 64 (pos 0)) j x ∙ length-replicate 64 (pos 0);
-        plans-long = written-long (replicate 4096 0) j s bs (length-replicate {A = ℕ} 4096 0) low short long;
-        splits-long = length-replicate {A = ℕ} 64 0;
-        barred-long = length-replicate {A = ℕ} 64 0;
-        count-high = omega arith;
-        slots = slots;
-      }
-
   the-entry : entryAt s alone j ≡ record { cost = x; plan = bs; split = 0; mask = 0 }
   the-entry =
       λ t. record {
@@ -50,3 +40,15 @@ module _ (s : ℕ) (short : s ≤ 64) (o : List ℕ) (slots : Slots o) (x : ℤ)
   pub alone-entries : entries s alone ≡ record { cost = x; plan = bs; split = 0; mask = 0 } ∷ []
   alone-entries =
       ap (map (entryAt s alone)) (first-one o (omega (arith, slots .long))) ∙ ap (λ (e : Entry). e ∷ []) the-entry
+
+  pub alone-formed : Formed alone
+  alone-formed =
+      record {
+        costs-long = length-set (replicate 64 (pos 0)) j x ∙ length-replicate 64 (pos 0);
+        plans-long = written-long (replicate 4096 0) j s bs (length-replicate {A = ℕ} 4096 0) low short long;
+        splits-long = length-replicate {A = ℕ} 64 0;
+        barred-long = length-replicate {A = ℕ} 64 0;
+        count-high = omega arith;
+        slots = slots;
+        ascends = ascends-one s alone (record { cost = x; plan = bs; split = 0; mask = 0 }) alone-entries;
+      }

@@ -6,7 +6,7 @@ ghost use Prim.Native.Nat.{_+_, _*_, _<_, _≤_};
 ghost use lib.ListN.{length, take, replicate};
 ghost use lib.Seq.{paste};
 ghost use Rattle.model.specs.Order.{lower};
-ghost use Rattle.pool.specs.Entries.{row, poolOf, entries, Slots, Formed, earlierThan, firstYes, Inserted, Spare, movedUp, movedBack};
+ghost use Rattle.pool.specs.Entries.{row, poolOf, entries, Slots, Formed, earlierThan, firstYes, beyondOf, Inserted, Spare, movedUp, movedBack};
 
 pub struct Pool {
     // by slot
@@ -156,6 +156,19 @@ fn spare_place(n: usize, k: usize) -> usize
         return n;
     }
     k - 1
+}
+
+// Do k wait, of which the last costs less? Then the candidate would not be kept.
+pub fn beyond(costs: &[i64; 64], order: &[usize; 64], n: usize, k: usize, cost: i64) -> bool
+    requires { ⌜ Slots (now order) × (1 ≤ k) × (k ≤ 64) ⌝ }
+    ensures { λ r. ⌜ r ≡ beyondOf n k cost (now (costs .entry)) (now (order .entry)) ⌝ }
+{
+    if n != k {
+        return false;
+    }
+    let slot = order[k - 1];
+    let last = costs[slot];
+    last < cost
 }
 
 // The candidate goes in front of the first of the n that it comes before, or to the end. No more than k are kept. Gives how many wait then.

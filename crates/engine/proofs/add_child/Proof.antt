@@ -11,6 +11,9 @@ use Rattle.accepted.specs.Facts.{accepted}
 use Rattle.costs.proofs.Sums.{read64}
 use Rattle.stored.specs.Entry.{Entry}
 use Rattle.build.specs.Walk.{chosen}
+use Rattle.pool.specs.declared.Pool.{Pool}
+use Rattle.pool.specs.Entries.{poolOf}
+use Rattle.pool.proofs.Insertion.{beyond-kept}
 use Rattle.engine.specs.Engine.{childOf}
 use Rattle.engine.proofs.Children.{added}
 use Rattle.engine.proofs.Parts as parts
@@ -45,25 +48,46 @@ module _ {o : List ℕ} (s : tie.Start) (rest : List ℕ) (e : o ≡ child s .pl
   front-long : length (take (s .args .z .s) (o ++ rest)) ≡ s .args .z .s
   front-long = parts.front-long (s .args .z .s) rest (child s .plan) e long
 
+abbrev pool : tie.Start → Pool
+pool s = poolOf (s .args .cs .now) (s .args .ps .now) (s .args .ss .now) (s .args .ms .now) (s .args .os .now) (s .args .n)
+
+beyond-requires : tie.Need-beyond-requires
+beyond-requires c κs =
+    let w = c .before .before .before .before .pre .7 in
+    (w .formed .slots, w .k-low, w .k-high)
+
+returns : tie.Need-returns
+returns c =
+    let s = c .before .before .before .before .before .before in
+    let w = s .pre .7 in
+    let x = s .args .d .cost in (
+      w,
+      beyond-kept (pool s) (stateCount (ws s)) (s .args .k) (child s) (w .formed) (w .few) (w .k-low)
+          (rw (read64 x (c .before .before .struct-told .given .0 .1)) at (sym (c .before .beyond .ensures) ∙ c .if1 .taken)) .kept,
+    )
+
+abbrev from : tie.After-zeros → tie.Start
+from a = a .before .before .before .before .before .before .before
+
 zeros-requires : tie.Need-zeros-requires
 zeros-requires c κs = tt
 
 array-borrow-prefix-row : tie.Need-array-borrow-prefix-row
-array-borrow-prefix-row c = omega (arith, few (c .before .before), c .zeros .ensures)
+array-borrow-prefix-row c = omega (arith, few (from c), c .zeros .ensures)
 
 slice-aggregate-build : tie.Need-slice-aggregate-build
-slice-aggregate-build c = sym (row-long (c .before .zeros .result) (c .before .zeros .ensures) (c .before .before .before))
+slice-aggregate-build c = sym (row-long (c .before .zeros .result) (c .before .zeros .ensures) (from (c .before)))
 
 build-requires : tie.Need-build-requires
 build-requires c κs =
-    let s = c .before .before .before in
+    let s = from (c .before) in
     let h = s .pre in
     (h .0, h .1, h .2, h .3, h .4, h .5, h .6, row-long (c .before .zeros .result) (c .before .zeros .ensures) s ∙ h .1 .s-is)
 
 -- after the build
 module _ (a : tie.After-build) where
   abbrev s : tie.Start
-  s = a .before .before .before .before
+  s = from (a .before .before)
 
   abbrev rest : List ℕ
   rest = drop (s .args .z .s) (a .before .before .zeros .result)
@@ -92,20 +116,22 @@ insert-requires c κs =
       front-long (s a) (rest a) (a .build .ensures),
     )
 
-returns : tie.Need-returns
-returns c =
+returns-2 : tie.Need-returns-2
+returns-2 c =
     let a = c .before .before .before .before .before .before .before .before .before in
     let w = s a .pre .7 in
     let i = c .insert .ensures in (
       record { k-low = w .k-low; k-high = w .k-high; formed = i .formed; few = i .count-high },
-      added (stateCount (ws (s a))) (child (s a)) (s a .pre .1 .s-is)
-          (read64 (s a .args .d .cost) (c .before .struct-told .given .0 .1)) (front (s a) (rest a) (a .build .ensures)) refl refl i,
+      added (stateCount (ws (s a))) (child (s a)) (s a .pre .1 .s-is) (read64 (s a .args .d .cost) (c .before .struct-told2 .given .0 .1))
+          (front (s a) (rest a) (a .build .ensures)) refl refl i,
     )
 
 pub add-child-spec : {M : Type 1} → statement M
 add-child-spec =
     tie.close
     (tie.spec
+    beyond-requires
+    returns
     zeros-requires
     array-borrow-prefix-row
     slice-aggregate-build
@@ -113,4 +139,4 @@ add-child-spec =
     array-share-prefix-row
     slice-aggregate-insert
     insert-requires
-    returns)
+    returns-2)
