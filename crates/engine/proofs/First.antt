@@ -12,7 +12,7 @@ use Rattle.costs.proofs.Sums.{read64}
 use Rattle.stored.specs.Entry.{Entry}
 use Rattle.stored.specs.Children.{Right}
 use Rattle.engine.specs.Engine.{Ready}
-use Rattle.engine.proofs.Child.{fits}
+use Rattle.engine.proofs.Children.{fits}
 
 module _ (ws : Words) (z : Sizes) (x : List ℕ) (q : List ℤ) (best : List ℕ) (rd : Ready ws z x q best) (d : Entry) (ri : Right ws d) where
   pub cost-read : {r : ℤ} → r ≡ d .cost → toZ w64 (ofZ w64 r) ≡ d .cost

@@ -1,4 +1,4 @@
-pub mod Child
+pub mod Children
 pub mod State
 pub mod Start
 pub mod States

@@ -159,10 +159,10 @@ module _ (ws : Words) (ok : bookNumber ws ≡ 0) (k : ℕ) where
       pub first-right : Right ws (firstEntry S pool)
       first-right = subst (Every (Right ws)) (pool-first S pool formed some .1) (l .right) .0
 
-      pub pool-next : (r : Pool) {cs : List ℤ} {ps : List ℕ} → j < k → k ≤ length costs₀ → k * S ≤ length plans₀ → entries S r ≡ splitPool ws k (entries S pool)
+      pub pool-next : {es : List Entry} {cs : List ℤ} {ps : List ℕ} → j < k → k ≤ length costs₀ → k * S ≤ length plans₀ → es ≡ splitPool ws k (entries S pool)
           → cs ≡ set costs j (firstEntry S pool .cost) → ps ≡ written plans (j * S) S (firstEntry S pool .plan)
-          → Listing ws k first costs₀ plans₀ (j + 1) (entries S r) cs ps
-      pool-next r {cs} {ps} more c-room p-room he hc hp =
+          → Listing ws k first costs₀ plans₀ (j + 1) es cs ps
+      pool-next {es} {cs} {ps} more c-room p-room he hc hp =
           let f = pool-first S pool formed some in
           next j (firstEntry S pool) (f .0) costs plans (subst (λ (es : List Entry). Listing ws k first costs₀ plans₀ j es costs plans) (f .1) l) more
-          (omega (arith, l .costs-long)) (omega (arith, l .plans-long′)) (entries S r) cs ps (he ∙ ap (splitPool ws k) (f .1)) hc hp
+          (omega (arith, l .costs-long)) (omega (arith, l .plans-long′)) es cs ps (he ∙ ap (splitPool ws k) (f .1)) hc hp

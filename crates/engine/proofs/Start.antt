@@ -1,12 +1,12 @@
 -- The first candidate: its first policy takes the first best action at each state that it reaches.
 -- Assumes nothing.
-use mathlib.Core.Path.{_≡_, refl, sym, ap, _∙_}
+use mathlib.Core.Path.{_≡_, sym, ap, _∙_}
 use mathlib.Core.List.{List, [], _∷_}
-use Prim.Native.Nat.{ℕ, zero, suc, _≤_, _<_}
+use Prim.Native.Nat.{ℕ, _<_}
 use native.Mathlib.Decide.{decLt}
 use native.Mathlib.Omega.{arith}
-use lib.ListN.{length, take}
-use Rattle.model.specs.Lists.{insert}
+use lib.IntN.{ℤ}
+use lib.ListN.{length}
 use Rattle.model.specs.Model.{Words, scale, stateCount, togo, action, options}
 use Rattle.model.specs.Questions.{bookNumber}
 use Rattle.model.specs.Policy.{Policy, isPolicy}
@@ -19,10 +19,9 @@ use Rattle.build.specs.Walk.{walkBy, chosen}
 use Rattle.build.proofs.Split.{split-here, split-after}
 use Rattle.build.proofs.Walk.{walk-same, walk-greedy}
 use Rattle.value.proofs.Bytes.{policy-long}
-use Rattle.stored.specs.Entry.{Entry, earlierEntry}
+use Rattle.stored.specs.Entry.{Entry}
 use Rattle.pool.specs.declared.Pool.{Pool}
-use Rattle.pool.specs.Entries.{Formed, entries}
-use Rattle.pool.proofs.Insertion.{entries-long}
+use Rattle.pool.specs.Entries.{entries}
 
 module _ (ws : Words) (ok : bookNumber ws ≡ 0) where
   pub first-walk : (bs : Policy) (c : ℕ) → c ≡ bestAt ws 0 → walkBy (action ws) (chosen ws bs 0 c) (stateCount ws) 0 (0 ∷ []) ≡ bestPolicy ws
@@ -40,16 +39,8 @@ module _ (ws : Words) (ok : bookNumber ws ≡ 0) where
   pub best-long : length (bestPolicy ws) ≡ stateCount ws
   best-long = policy-long ws ok (bestPolicy ws) (T-true (isPolicy ws (bestPolicy ws)) (best-policy ws ok)) 0 (shape ws ok .some-state)
 
-pub none-counted : (s : ℕ) (p : Pool) → Formed p → entries s p ≡ [] → p .count ≡ 0
-none-counted s p f h = sym (entries-long s p f) ∙ ap length h
-
-pub alone : (k : ℕ) (e : Entry) (es : List Entry) → 1 ≤ k → es ≡ [] → take k (insert earlierEntry e es) ≡ e ∷ []
-alone k e es h z = ap (λ (es : List Entry). take k (insert earlierEntry e es)) z ∙ one k h
-  where
-    none : (k : ℕ) → take {A = Entry} k [] ≡ []
-    none zero = refl
-    none (suc k) = refl
-
-    one : (k : ℕ) → 1 ≤ k → take k (e ∷ []) ≡ e ∷ []
-    one zero h = absurd (omega arith)
-    one (suc k) h = ap (λ (es : List Entry). e ∷ es) (none k)
+-- the one entry of a pool, by what is equal to its parts
+pub first-alone : {s : ℕ} {x : ℤ} {bs : List ℕ} (P : Pool) (S : ℕ) (e : Entry) → s ≡ S → x ≡ e .cost → bs ≡ e .plan
+    → entries s P ≡ record { cost = x; plan = bs; split = 0; mask = 0 } ∷ [] → entries S P ≡ record { cost = e .cost; plan = e .plan; split = 0; mask = 0 } ∷ []
+first-alone {s} {x} {bs} P S e hs hx hb h =
+    ap (λ (n : ℕ). entries n P) (sym hs) ∙ h ∙ λ t. record { cost = hx t; plan = hb t; split = 0; mask = 0 } ∷ []

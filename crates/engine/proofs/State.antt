@@ -21,11 +21,11 @@ use Rattle.value.proofs.Bytes.{byte-is}
 use Rattle.splits.specs.Search.{admit}
 use Rattle.stored.specs.Entry.{Entry, earlierEntry}
 use Rattle.stored.specs.Lists.{left}
-use Rattle.stored.specs.Children.{Right, maskAt}
+use Rattle.stored.specs.Children.{Right, maskAt, childEntry}
 use Rattle.stored.specs.Runs.{itself}
 use Rattle.child.proofs.Splits.{none-unreached, none-left, own-action, own-small, one-child}
 use Rattle.engine.specs.Engine.{Ready, ChildAt, joined, admitted}
-use Rattle.engine.proofs.Child.{free-under, in-plan}
+use Rattle.engine.proofs.Children.{free-under, in-plan}
 
 module _ (ws : Words) (z : Sizes) (x : List ℕ) (q : List ℤ) (best : List ℕ) (rd : Ready ws z x q best) (e : Entry) (ri : Right ws e) (p : ℕ)
     (from : e .split ≤ p) (state : p < stateCount ws) (k : ℕ) (es : List Entry) where
@@ -80,5 +80,5 @@ module _ (ws : Words) (z : Sizes) (x : List ℕ) (q : List ℤ) (best : List ℕ
               some = one-child ws (rd .ok) e ri p state from other′ cost r next some .0;
             }
 
-        pub one : joined ws k e p es ≡ admitted ws k e p es
+        pub one : joined k (childEntry ws e p) es ≡ admitted ws k e p es
         one = sym (ap (λ (cs : List Entry). admit earlierEntry itself k cs es) (one-child ws (rd .ok) e ri p state from other′ cost r next some .1))

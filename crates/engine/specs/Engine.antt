@@ -19,6 +19,7 @@ use Rattle.book.specs.Read.{SizesAre}
 use Rattle.book.specs.declared.Sizes.{Sizes}
 use Rattle.index.specs.Index.{IndexOf}
 use Rattle.build.specs.Best.{RowsOf, BestOf}
+use Rattle.build.specs.Walk.{walkBy, chosen}
 use Rattle.reach.specs.Weights.{WeightsOf}
 use Rattle.stored.specs.Entry.{Entry, earlierEntry}
 use Rattle.pool.specs.Entries.{Formed}
@@ -28,6 +29,7 @@ use Rattle.stored.specs.Lists.{left}
 use Rattle.stored.specs.Children.{costOf, Right, maskAt, childEntry, addIf, splitsAt, childEntries}
 use Rattle.stored.specs.Runs.{itself, childrenOf, planOf, costIn}
 use Rattle.engine.specs.declared.Parent.{Parent}
+use Rattle.engine.specs.declared.Child.{Child}
 
 -- a checked book with its sizes, its index, its table of action costs and its first best actions
 pub record Ready (ws : Words) (z : Sizes) (x : List ℕ) (q : List ℤ) (best : List ℕ) : Type 0 where
@@ -61,9 +63,14 @@ pub record ChildAt (ws : Words) (e : Entry) (p c mask : ℕ) : Type 0 where
   pub next : c ≡ bestOf (through (scale ws) (action ws) (options ws) (togo ws p) p) (left ws p (maskAt e p))
   pub some : In c (left ws p (maskAt e p))
 
--- the entries after the child joined them
-abbrev pub joined : Words → ℕ → Entry → ℕ → List Entry → List Entry
-joined ws k e p es = take k (insert earlierEntry (childEntry ws e p) es)
+-- the child d of the bytes bs, split at state p
+abbrev pub childOf : Words → Policy → ℕ → Child → Entry
+childOf ws bs p d =
+    record { cost = d .cost; plan = walkBy (action ws) (chosen ws bs p (d .action)) (stateCount ws) 0 (0 ∷ []); split = p; mask = d .mask }
+
+-- the entries after d joined them
+abbrev pub joined : ℕ → Entry → List Entry → List Entry
+joined k d es = take k (insert earlierEntry d es)
 
 -- the entries after the child of e at state p joined them, if there is one
 abbrev pub admitted : Words → ℕ → Entry → ℕ → List Entry → List Entry

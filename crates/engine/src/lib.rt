@@ -1,20 +1,24 @@
 // The K best policies of a checked book. The first candidate is all policies. The first policy of the first candidate that waits is listed, and what is
 // left of its set is split, at each state that it reaches from its own split state on. A candidate that K others come before is let go: no policy of
 // its set is among the first K.
+//
+// The arrays of the pool are changed in place: cs (costs), ps (bytes of the policies), ss (split states), ms (sets of barred actions) and os (the order
+// of the slots), each by slot but the last, with the number n of those that wait.
 use book::Sizes;
 use pool::Pool;
 ghost use mathlib.Core.Path.{_≡_};
 ghost use mathlib.Core.List.{[], _∷_};
 ghost use Prim.Native.Nat.{_+_, _*_, _<_, _≤_};
 ghost use lib.ListN.{length, set};
-ghost use Rattle.model.specs.Model.{stateCount};
+ghost use Rattle.model.specs.Model.{stateCount, actionCount};
 ghost use Rattle.model.specs.Questions.{bookNumber};
 ghost use Rattle.book.specs.Read.{SizesAre};
 ghost use Rattle.index.specs.Index.{IndexOf};
 ghost use Rattle.build.specs.Best.{BestOf};
-ghost use Rattle.engine.specs.Engine.{Ready, Parenting, Waiting, ChildAt, entryOf, joined, admitted, admittedFrom, splitPool, Found, firstCandidate, Ranked};
+ghost use Rattle.build.specs.Walk.{Usable};
+ghost use Rattle.engine.specs.Engine.{Ready, Parenting, Waiting, entryOf, childOf, joined, admitted, admittedFrom, splitPool, Found, firstCandidate, Ranked};
 ghost use Rattle.laws.specs.Members.{Every};
-ghost use Rattle.pool.specs.Entries.{entries, firstEntry};
+ghost use Rattle.pool.specs.Entries.{poolOf, entries, firstEntry};
 ghost use Rattle.stored.specs.Children.{Right};
 ghost use Rattle.stored.specs.Runs.{runEntries};
 ghost use Rattle.bytes_io.specs.Slices.{written};
@@ -26,40 +30,50 @@ pub struct Parent {
     pub mask: u8,
 }
 
+// A child: its cost, the action that it takes at its split state and the set of actions barred there.
+pub struct Child {
+    pub cost: i64,
+    pub action: usize,
+    pub mask: u8,
+}
+
 fn zeros() -> [u8; 64]
     ensures { λ r. ⌜ length r ≡ 64 ⌝ }
 {
     [0; 64]
 }
 
-// The pool with the child of e that takes action c at state p.
+// The child d of the policy `plan` joins those that wait: it splits at state p. Gives how many wait then. The bytes of a child that costs more than the
+// last of k that wait are not needed.
 fn add_child(
     b: &[i32],
     z: Sizes,
     x: &[usize; 192],
-    q: &[i64; 512],
     best: &[usize; 64],
-    w: &[usize; 64],
     plan: &[u8],
-    e: Parent,
     p: usize,
-    c: usize,
-    mask: u8,
+    d: Child,
     k: usize,
-    pool: Pool,
-) -> Pool
-    requires { ⌜ Ready (now b) z (now x) (now q) (now best) × Parenting (now b) e (now plan) (now w) × ChildAt (now b) (entryOf e (now plan)) p c mask × Waiting k pool ⌝ }
-    ensures { λ r. ⌜ Waiting k r × (entries (stateCount (now (b .entry))) r ≡ joined (now (b .entry)) k (entryOf e (now (plan .entry))) p (entries (stateCount (now (b .entry))) pool)) ⌝ }
+    cs: &mut [i64; 64],
+    ps: &mut [u8; 4096],
+    ss: &mut [usize; 64],
+    ms: &mut [u8; 64],
+    os: &mut [usize; 64],
+    n: usize,
+) -> usize
+    requires { ⌜ (bookNumber (now b) ≡ 0) × SizesAre (now b) z × IndexOf (now b) (now x) × BestOf (now b) (now best) × Usable (now b) (now plan) p × (p < stateCount (now b)) × (d .action < actionCount (now b) p) × Waiting k (poolOf (now cs) (now ps) (now ss) (now ms) (now os) n) ⌝ }
+    ensures { λ r. ⌜ Waiting k (poolOf (now (cs .exit)) (now (ps .exit)) (now (ss .exit)) (now (ms .exit)) (now (os .exit)) r) × (entries (stateCount (now (b .entry))) (poolOf (now (cs .exit)) (now (ps .exit)) (now (ss .exit)) (now (ms .exit)) (now (os .exit)) r) ≡ joined k (childOf (now (b .entry)) (now (plan .entry)) p d) (entries (stateCount (now (b .entry))) (poolOf (now (cs .entry)) (now (ps .entry)) (now (ss .entry)) (now (ms .entry)) (now (os .entry)) n))) ⌝ }
 {
+    if pool::beyond(cs, os, n, k, d.cost) {
+        return n;
+    }
     let s = z.s;
-    let f = plan[p] as usize;
-    let cost = child::child_cost(q, w, p, c, f, e.cost);
     let mut row = zeros();
-    build::build(b, z, x, best, plan, p, c, &mut row[..s]);
-    pool::insert(pool, k, s, cost, &row[..s], p, mask)
+    build::build(b, z, x, best, plan, p, d.action, &mut row[..s]);
+    pool::insert(cs, ps, ss, ms, os, n, k, s, d.cost, &row[..s], p, d.mask)
 }
 
-// The pool with the child of e at state p, if e reaches p and an action is left there.
+// The child of e at state p joins those that wait, if e reaches p and an action is left there.
 fn split_state(
     b: &[i32],
     z: Sizes,
@@ -71,25 +85,36 @@ fn split_state(
     e: Parent,
     p: usize,
     k: usize,
-    pool: Pool,
-) -> Pool
-    requires { ⌜ Ready (now b) z (now x) (now q) (now best) × Parenting (now b) e (now plan) (now w) × (e .split ≤ p) × (p < stateCount (now b)) × Waiting k pool ⌝ }
-    ensures { λ r. ⌜ Waiting k r × (entries (stateCount (now (b .entry))) r ≡ admitted (now (b .entry)) k (entryOf e (now (plan .entry))) p (entries (stateCount (now (b .entry))) pool)) ⌝ }
+    cs: &mut [i64; 64],
+    ps: &mut [u8; 4096],
+    ss: &mut [usize; 64],
+    ms: &mut [u8; 64],
+    os: &mut [usize; 64],
+    n: usize,
+) -> usize
+    requires { ⌜ Ready (now b) z (now x) (now q) (now best) × Parenting (now b) e (now plan) (now w) × (e .split ≤ p) × (p < stateCount (now b)) × Waiting k (poolOf (now cs) (now ps) (now ss) (now ms) (now os) n) ⌝ }
+    ensures { λ r. ⌜ Waiting k (poolOf (now (cs .exit)) (now (ps .exit)) (now (ss .exit)) (now (ms .exit)) (now (os .exit)) r) × (entries (stateCount (now (b .entry))) (poolOf (now (cs .exit)) (now (ps .exit)) (now (ss .exit)) (now (ms .exit)) (now (os .exit)) r) ≡ admitted (now (b .entry)) k (entryOf e (now (plan .entry))) p (entries (stateCount (now (b .entry))) (poolOf (now (cs .entry)) (now (ps .entry)) (now (ss .entry)) (now (ms .entry)) (now (os .entry)) n))) ⌝ }
 {
     let f = plan[p] as usize;
     if f == 255 {
-        return pool;
+        return n;
     }
     let mask = child::mask_at(e.split, e.mask, p, f);
-    let n = index::count(b, z, p);
-    let c = table::best_action(q, p, n, mask);
+    let actions = index::count(b, z, p);
+    let c = table::best_action(q, p, actions, mask);
     if c == 255 {
-        return pool;
+        return n;
     }
-    add_child(b, z, x, q, best, w, plan, e, p, c, mask, k, pool)
+    let cost = child::child_cost(q, w, p, c, f, e.cost);
+    let d = Child {
+        cost: cost,
+        action: c,
+        mask: mask,
+    };
+    add_child(b, z, x, best, plan, p, d, k, cs, ps, ss, ms, os, n)
 }
 
-// The pool with all children of e.
+// All children of e join those that wait.
 fn split_all(
     b: &[i32],
     z: Sizes,
@@ -100,22 +125,27 @@ fn split_all(
     plan: &[u8],
     e: Parent,
     k: usize,
-    start: Pool,
-) -> Pool
-    requires { ⌜ Ready (now b) z (now x) (now q) (now best) × Parenting (now b) e (now plan) (now w) × Waiting k start ⌝ }
-    ensures { λ r. ⌜ Waiting k r × (entries (stateCount (now (b .entry))) r ≡ admittedFrom (now (b .entry)) k (entryOf e (now (plan .entry))) 0 (stateCount (now (b .entry))) (entries (stateCount (now (b .entry))) start)) ⌝ }
+    cs: &mut [i64; 64],
+    ps: &mut [u8; 4096],
+    ss: &mut [usize; 64],
+    ms: &mut [u8; 64],
+    os: &mut [usize; 64],
+    n: usize,
+) -> usize
+    requires { ⌜ Ready (now b) z (now x) (now q) (now best) × Parenting (now b) e (now plan) (now w) × Waiting k (poolOf (now cs) (now ps) (now ss) (now ms) (now os) n) ⌝ }
+    ensures { λ r. ⌜ Waiting k (poolOf (now (cs .exit)) (now (ps .exit)) (now (ss .exit)) (now (ms .exit)) (now (os .exit)) r) × (entries (stateCount (now (b .entry))) (poolOf (now (cs .exit)) (now (ps .exit)) (now (ss .exit)) (now (ms .exit)) (now (os .exit)) r) ≡ admittedFrom (now (b .entry)) k (entryOf e (now (plan .entry))) 0 (stateCount (now (b .entry))) (entries (stateCount (now (b .entry))) (poolOf (now (cs .entry)) (now (ps .entry)) (now (ss .entry)) (now (ms .entry)) (now (os .entry)) n))) ⌝ }
 {
     let s = z.s;
-    let mut pool = start;
+    let mut m = n;
     let mut p = e.split;
     while p < s {
-        pool = split_state(b, z, x, q, best, w, plan, e, p, k, pool);
+        m = split_state(b, z, x, q, best, w, plan, e, p, k, cs, ps, ss, ms, os, m);
         p = p + 1;
     }
-    pool
+    m
 }
 
-// The pool after its first candidate, whose bytes are lent, is split.
+// The first candidate, whose bytes are lent, is split.
 fn split_first(
     b: &[i32],
     z: Sizes,
@@ -123,23 +153,29 @@ fn split_first(
     q: &[i64; 512],
     best: &[usize; 64],
     k: usize,
-    pool: Pool,
+    cs: &mut [i64; 64],
+    ps: &mut [u8; 4096],
+    ss: &mut [usize; 64],
+    ms: &mut [u8; 64],
+    os: &mut [usize; 64],
+    n: usize,
     plan: &[u8],
-) -> Pool
-    requires { ⌜ Ready (now b) z (now x) (now q) (now best) × Waiting k pool × (1 ≤ pool .count) × Right (now b) (firstEntry (stateCount (now b)) pool) × (now plan ≡ firstEntry (stateCount (now b)) pool .plan) ⌝ }
-    ensures { λ r. ⌜ Waiting k r × (entries (stateCount (now (b .entry))) r ≡ splitPool (now (b .entry)) k (entries (stateCount (now (b .entry))) pool)) ⌝ }
+) -> usize
+    requires { ⌜ Ready (now b) z (now x) (now q) (now best) × Waiting k (poolOf (now cs) (now ps) (now ss) (now ms) (now os) n) × (1 ≤ n) × Right (now b) (firstEntry (stateCount (now b)) (poolOf (now cs) (now ps) (now ss) (now ms) (now os) n)) × (now plan ≡ firstEntry (stateCount (now b)) (poolOf (now cs) (now ps) (now ss) (now ms) (now os) n) .plan) ⌝ }
+    ensures { λ r. ⌜ Waiting k (poolOf (now (cs .exit)) (now (ps .exit)) (now (ss .exit)) (now (ms .exit)) (now (os .exit)) r) × (entries (stateCount (now (b .entry))) (poolOf (now (cs .exit)) (now (ps .exit)) (now (ss .exit)) (now (ms .exit)) (now (os .exit)) r) ≡ splitPool (now (b .entry)) k (entries (stateCount (now (b .entry))) (poolOf (now (cs .entry)) (now (ps .entry)) (now (ss .entry)) (now (ms .entry)) (now (os .entry)) n))) ⌝ }
 {
-    let cost = pool::first_cost(pool);
-    let split = pool::first_split(pool);
-    let mask = pool::first_mask(pool);
-    let rest = pool::pop(pool);
+    let slot = os[0];
+    let cost = cs[slot];
+    let split = ss[slot];
+    let mask = ms[slot];
+    pool::move_back(os, n);
     let w = reach::reach_weights(b, z, x, plan);
     let e = Parent {
         cost: cost,
         split: split,
         mask: mask,
     };
-    split_all(b, z, x, q, best, &w, plan, e, k, rest)
+    split_all(b, z, x, q, best, &w, plan, e, k, cs, ps, ss, ms, os, n - 1)
 }
 
 // The first policy that waits is listed as policy j, and its candidate is split.
@@ -151,22 +187,60 @@ fn list_one(
     best: &[usize; 64],
     j: usize,
     k: usize,
-    pool: Pool,
+    cs: &mut [i64; 64],
+    ps: &mut [u8; 4096],
+    ss: &mut [usize; 64],
+    ms: &mut [u8; 64],
+    os: &mut [usize; 64],
+    n: usize,
     costs: &mut [i64],
     plans: &mut [u8],
-) -> Pool
-    requires { ⌜ Ready (now b) z (now x) (now q) (now best) × Waiting k pool × (1 ≤ pool .count) × Right (now b) (firstEntry (stateCount (now b)) pool) × (j < k) × (j < length (now costs)) × (j * stateCount (now b) + stateCount (now b) ≤ length (now plans)) ⌝ }
-    ensures { λ r. ⌜ Waiting k r × (entries (stateCount (now (b .entry))) r ≡ splitPool (now (b .entry)) k (entries (stateCount (now (b .entry))) pool)) × (now (costs .exit) ≡ set (now (costs .entry)) j (firstEntry (stateCount (now (b .entry))) pool .cost)) × (now (plans .exit) ≡ written (now (plans .entry)) (j * stateCount (now (b .entry))) (stateCount (now (b .entry))) (firstEntry (stateCount (now (b .entry))) pool .plan)) ⌝ }
+) -> usize
+    requires { ⌜ Ready (now b) z (now x) (now q) (now best) × Waiting k (poolOf (now cs) (now ps) (now ss) (now ms) (now os) n) × (1 ≤ n) × Right (now b) (firstEntry (stateCount (now b)) (poolOf (now cs) (now ps) (now ss) (now ms) (now os) n)) × (j < k) × (j < length (now costs)) × (j * stateCount (now b) + stateCount (now b) ≤ length (now plans)) ⌝ }
+    ensures { λ r. ⌜ Waiting k (poolOf (now (cs .exit)) (now (ps .exit)) (now (ss .exit)) (now (ms .exit)) (now (os .exit)) r) × (entries (stateCount (now (b .entry))) (poolOf (now (cs .exit)) (now (ps .exit)) (now (ss .exit)) (now (ms .exit)) (now (os .exit)) r) ≡ splitPool (now (b .entry)) k (entries (stateCount (now (b .entry))) (poolOf (now (cs .entry)) (now (ps .entry)) (now (ss .entry)) (now (ms .entry)) (now (os .entry)) n))) × (now (costs .exit) ≡ set (now (costs .entry)) j (firstEntry (stateCount (now (b .entry))) (poolOf (now (cs .entry)) (now (ps .entry)) (now (ss .entry)) (now (ms .entry)) (now (os .entry)) n) .cost)) × (now (plans .exit) ≡ written (now (plans .entry)) (j * stateCount (now (b .entry))) (stateCount (now (b .entry))) (firstEntry (stateCount (now (b .entry))) (poolOf (now (cs .entry)) (now (ps .entry)) (now (ss .entry)) (now (ms .entry)) (now (os .entry)) n) .plan)) ⌝ }
 {
     let s = z.s;
     let at = j * s;
     let to = at + s;
-    costs[j] = pool::first_cost(pool);
-    pool::first_plan(pool, s, &mut plans[at..to]);
-    split_first(b, z, x, q, best, k, pool, &plans[at..to])
+    let slot = os[0];
+    costs[j] = cs[slot];
+    pool::read_row(ps, slot, s, &mut plans[at..to]);
+    split_first(b, z, x, q, best, k, cs, ps, ss, ms, os, n, &plans[at..to])
 }
 
-// The first k policies by the search from the candidates that wait at the start.
+// The first k policies by the search from the candidates that wait.
+fn list_all(
+    b: &[i32],
+    z: Sizes,
+    x: &[usize; 192],
+    q: &[i64; 512],
+    best: &[usize; 64],
+    k: usize,
+    cs: &mut [i64; 64],
+    ps: &mut [u8; 4096],
+    ss: &mut [usize; 64],
+    ms: &mut [u8; 64],
+    os: &mut [usize; 64],
+    n: usize,
+    costs: &mut [i64],
+    plans: &mut [u8],
+) -> usize
+    requires { ⌜ Ready (now b) z (now x) (now q) (now best) × Waiting k (poolOf (now cs) (now ps) (now ss) (now ms) (now os) n) × Every (Right (now b)) (entries (stateCount (now b)) (poolOf (now cs) (now ps) (now ss) (now ms) (now os) n)) × (k ≤ length (now costs)) × (k * stateCount (now b) ≤ length (now plans)) ⌝ }
+    ensures { λ r. ⌜ Found (runEntries (now (b .entry)) k k (entries (stateCount (now (b .entry))) (poolOf (now (cs .entry)) (now (ps .entry)) (now (ss .entry)) (now (ms .entry)) (now (os .entry)) n))) r (now (costs .entry)) (now (costs .exit)) (now (plans .entry)) (now (plans .exit)) ⌝ }
+{
+    let mut m = n;
+    let mut j: usize = 0;
+    while j < k {
+        if m == 0 {
+            return j;
+        }
+        m = list_one(b, z, x, q, best, j, k, cs, ps, ss, ms, os, m, costs, plans);
+        j = j + 1;
+    }
+    j
+}
+
+// The first k policies by the search from the pool `start`.
 fn search(
     b: &[i32],
     z: Sizes,
@@ -181,16 +255,28 @@ fn search(
     requires { ⌜ Ready (now b) z (now x) (now q) (now best) × Waiting k start × Every (Right (now b)) (entries (stateCount (now b)) start) × (k ≤ length (now costs)) × (k * stateCount (now b) ≤ length (now plans)) ⌝ }
     ensures { λ r. ⌜ Found (runEntries (now (b .entry)) k k (entries (stateCount (now (b .entry))) start)) r (now (costs .entry)) (now (costs .exit)) (now (plans .entry)) (now (plans .exit)) ⌝ }
 {
-    let mut pool = start;
-    let mut j: usize = 0;
-    while j < k {
-        if pool.count == 0 {
-            return j;
-        }
-        pool = list_one(b, z, x, q, best, j, k, pool, costs, plans);
-        j = j + 1;
-    }
-    j
+    let mut cs = start.costs;
+    let mut ps = start.plans;
+    let mut ss = start.splits;
+    let mut ms = start.barred;
+    let mut os = start.order;
+    let n = start.count;
+    list_all(
+        b,
+        z,
+        x,
+        q,
+        best,
+        k,
+        &mut cs,
+        &mut ps,
+        &mut ss,
+        &mut ms,
+        &mut os,
+        n,
+        costs,
+        plans,
+    )
 }
 
 // The pool with the first candidate: all policies, of which the first takes the first best actions and costs `cost`.
@@ -210,7 +296,7 @@ fn first_pool(
     let none = zeros();
     let mut row = zeros();
     build::build(b, z, x, best, &none[..s], 0, first, &mut row[..s]);
-    pool::insert(pool::empty(), k, s, cost, &row[..s], 0, 0)
+    pool::single(s, cost, &row[..s])
 }
 
 // The first k policies of a checked book and their costs, at the front of the lent slices; gives how many there are.

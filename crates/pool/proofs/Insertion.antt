@@ -17,8 +17,9 @@ use Rattle.laws.specs.Members.{In, every-in, ++-in}
 use Rattle.laws.specs.Sorting.{in-take}
 use Rattle.pool.specs.declared.Pool.{Pool}
 use Rattle.stored.specs.Entry.{Entry, earlierEntry}
-use Rattle.pool.specs.Entries.{entryAt, entries, Formed, earlierThan, firstYes, Inserted, Spare, movedUp}
+use Rattle.pool.specs.Entries.{entryAt, entries, Formed, earlierThan, firstYes, beyondOf, Inserted, Spare, movedUp}
 use Rattle.pool.proofs.Moves.{between, before-long, between-long, first-n, up-slots, up-first, slot-new, slot-low}
+use Rattle.pool.proofs.Ascent.{ascends-kept, not-kept}
 use Rattle.pool.proofs.Rows.{written-long, row-same, row-other}
 
 -- ---- the place
@@ -151,17 +152,6 @@ module _ (p : Pool) (s k : ℕ) (e : Entry) (ready : Ready p s k (e .plan)) wher
               after-k (yes l) = omega arith
               after-k (no l) = absurd (new (omega (arith, place-most)))
 
-      filled-formed : Formed q
-      filled-formed =
-          record {
-            costs-long = length-set (p .costs) j (e .cost) ∙ ok .costs-long;
-            plans-long = written-long (p .plans) j s (e .plan) (ok .plans-long) low (ready .2) (ready .6);
-            splits-long = length-set (p .splits) j (e .split) ∙ ok .splits-long;
-            barred-long = length-set (p .barred) j (e .mask) ∙ ok .barred-long;
-            count-high = omega arith;
-            slots = up-slots o i n place-before inside (ok .slots);
-          }
-
       -- slot j holds the new entry, and every other slot what it held
       entry-new : entryAt s q j ≡ e
       entry-new =
@@ -226,5 +216,23 @@ module _ (p : Pool) (s k : ℕ) (e : Entry) (ready : Ready p s k (e .plan)) wher
           (entries-old (between o i n) (λ z m. rw (first-n o i n place-before inside) (++-in z (take i o) (between o i n) (inr m)))))
           ∙ sym (by-spare (spare .1))
 
+      filled-formed : Formed q
+      filled-formed =
+          record {
+            costs-long = length-set (p .costs) j (e .cost) ∙ ok .costs-long;
+            plans-long = written-long (p .plans) j s (e .plan) (ok .plans-long) low (ready .2) (ready .6);
+            splits-long = length-set (p .splits) j (e .split) ∙ ok .splits-long;
+            barred-long = length-set (p .barred) j (e .mask) ∙ ok .barred-long;
+            count-high = omega arith;
+            slots = up-slots o i n place-before inside (ok .slots);
+            ascends = ascends-kept s k e p q (ok .ascends) filled-entries;
+          }
+
       pub filled-inserted : Inserted s k e p q
       filled-inserted = record { formed = filled-formed; count-high = omega arith; kept = filled-entries }
+
+-- k wait, and it costs more than the last
+pub beyond-kept : (p : Pool) (s k : ℕ) (e : Entry) → Formed p → p .count ≤ k → 1 ≤ k
+    → beyondOf (p .count) k (e .cost) (p .costs) (p .order) ≡ true → Inserted s k e p p
+beyond-kept p s k e ok few low h =
+    record { formed = ok; count-high = few; kept = not-kept s k p low (waiting-long p ok) (ok .ascends) e h }

@@ -6,7 +6,8 @@ use Prim.Native.Nat.{ℕ, _-_, _≤_}
 use native.Mathlib.Omega.{arith}
 use lib.ListN.{length}
 use Rattle.pool.specs.declared.Pool.{Pool}
-use Rattle.pool.specs.Entries.{entryAt, firstEntry, Slots, Formed, Popped, movedBack}
+use Rattle.pool.specs.Entries.{entryAt, firstEntry, entries, Slots, Formed, Popped, movedBack}
+use Rattle.pool.proofs.Ascent.{ascends-rest}
 use Rattle.pool.proofs.Moves.{back-slots, first-others, back-first}
 
 -- the pool with its slots in the order o, of which one less wait
@@ -18,6 +19,12 @@ module _ (p : Pool) (ok : Formed p) (some : 1 ≤ p .count) (o : List ℕ) (move
   high : p .count ≤ length (p .order)
   high = omega (arith, ok .count-high, ok .slots .long)
 
+  rests : (s : ℕ) → entries s p ≡ firstEntry s p ∷ entries s (shorter p o)
+  rests s =
+      rw moved
+      (ap (map (entryAt s p)) (first-others (p .order) (p .count) some high)
+      ∙ ap (λ (xs : List ℕ). firstEntry s p ∷ map (entryAt s p) xs) (sym (back-first (p .order) (p .count) some high)))
+
   pub shorter-popped : Popped p (shorter p o)
   shorter-popped =
       record {
@@ -28,9 +35,8 @@ module _ (p : Pool) (ok : Formed p) (some : 1 ≤ p .count) (o : List ℕ) (move
           barred-long = ok .barred-long;
           count-high = omega (arith, ok .count-high);
           slots = subst Slots (sym moved) (back-slots (p .order) (p .count) some high (ok .slots));
+          ascends = ascends-rest 0 p (shorter p o) (firstEntry 0 p) (ok .ascends) (rests 0);
         };
         count-is = omega arith;
-        rest = λ s. rw moved
-            (ap (map (entryAt s p)) (first-others (p .order) (p .count) some high)
-            ∙ ap (λ (xs : List ℕ). firstEntry s p ∷ map (entryAt s p) xs) (sym (back-first (p .order) (p .count) some high)));
+        rest = rests;
       }

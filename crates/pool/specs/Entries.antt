@@ -6,7 +6,8 @@ use mathlib.Core.Logic.{_⊎_}
 use mathlib.Core.List.{List, [], _∷_, _++_, map}
 use Prim.Native.Nat.{ℕ, suc, _+_, _*_, _-_, _≤_, _<_}
 use lib.IntN.{ℤ, pos}
-use lib.Signed.{ltZ}
+use lib.Dec.{eqb}
+use lib.Signed.{ltZ, _≤ℤ_}
 use lib.ListN.{length, getD, take, drop}
 use Rattle.model.specs.Lists.{insert}
 use Rattle.model.specs.Order.{lower}
@@ -15,6 +16,11 @@ use Rattle.stored.specs.Entry.{Entry, earlierEntry}
 use Rattle.pool.specs.declared.Pool.{Pool}
 
 -- ---- entries
+
+-- the pool of these arrays, of which n wait
+abbrev pub poolOf : List ℤ → List ℕ → List ℕ → List ℕ → List ℕ → ℕ → Pool
+poolOf costs plans splits barred order n =
+    record { costs = costs; plans = plans; splits = splits; barred = barred; order = order; count = n }
 
 -- the s bytes of a slot
 abbrev pub row : ℕ → List ℕ → ℕ → List ℕ
@@ -39,6 +45,15 @@ pub record Slots (order : List ℕ) : Type 0 where
   pub low : Every (λ (j : ℕ). j < 64) order
   pub apart : Apart order
 
+-- no number is above a later one
+abbrev pub Ascending : List ℤ → Type 0
+Ascending [] = Unit {0}
+Ascending (x ∷ xs) = Every (λ (y : ℤ). x ≤ℤ y) xs × Ascending xs
+
+-- the costs of those that wait, in order
+abbrev pub costsOf : Pool → List ℤ
+costsOf p = map (λ (j : ℕ). getD (p .costs) j (pos 0)) (take (p .count) (p .order))
+
 -- what holds of every pool
 pub record Formed (p : Pool) : Type 0 where
   pub costs-long : length (p .costs) ≡ 64
@@ -47,6 +62,7 @@ pub record Formed (p : Pool) : Type 0 where
   pub barred-long : length (p .barred) ≡ 64
   pub count-high : p .count ≤ 64
   pub slots : Slots (p .order)
+  pub ascends : Ascending (costsOf p)
 
 -- ---- the place of a new entry
 
@@ -58,6 +74,10 @@ earlierThan x bs s costs plans j = ltZ x (getD costs j (pos 0)) || (not (ltZ (ge
 abbrev pub firstYes : (ℕ → Bool) → List ℕ → ℕ
 firstYes test [] = 0
 firstYes test (x ∷ xs) = cond (test x) 0 (suc (firstYes test xs))
+
+-- do k wait, of which the last costs less than x?
+abbrev pub beyondOf : ℕ → ℕ → ℤ → List ℤ → List ℕ → Bool
+beyondOf n k x costs order = eqb n k && ltZ (getD costs (getD order (k - 1) 0) (pos 0)) x
 
 -- ---- a pool and the one that is made of it
 

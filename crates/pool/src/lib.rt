@@ -1,12 +1,12 @@
 // The candidates that wait in the search, at most 64, in order. The slots are reached through `order`, so that an insertion moves numbers and not
-// plans.
+// plans. A search takes the arrays of its pool once, and lends them to the functions that change them, so that no step copies a pool.
 ghost use mathlib.Core.Path.{_≡_};
-ghost use mathlib.Core.List.{[]};
-ghost use Prim.Native.Nat.{ℕ, _+_, _*_, _<_, _≤_};
-ghost use lib.ListN.{length, take};
+ghost use mathlib.Core.List.{[], _∷_};
+ghost use Prim.Native.Nat.{_+_, _*_, _<_, _≤_};
+ghost use lib.ListN.{length, take, replicate};
 ghost use lib.Seq.{paste};
 ghost use Rattle.model.specs.Order.{lower};
-ghost use Rattle.pool.specs.Entries.{row, firstEntry, entries, Slots, Formed, earlierThan, firstYes, Inserted, Popped, Spare, movedUp, movedBack};
+ghost use Rattle.pool.specs.Entries.{row, poolOf, entries, Slots, Formed, earlierThan, firstYes, beyondOf, Inserted, Spare, movedUp, movedBack};
 
 pub struct Pool {
     // by slot
@@ -24,7 +24,7 @@ pub struct Pool {
 }
 
 fn zeros() -> [usize; 64]
-    ensures { λ r. ⌜ length r ≡ 64 ⌝ }
+    ensures { λ r. ⌜ r ≡ replicate 64 0 ⌝ }
 {
     [0; 64]
 }
@@ -40,20 +40,6 @@ fn first_order() -> [usize; 64]
         i = i + 1;
     }
     order
-}
-
-// The pool in which none waits.
-pub fn empty() -> Pool
-    ensures { λ r. ⌜ Formed r × ((s : ℕ) → entries s r ≡ []) ⌝ }
-{
-    Pool {
-        costs: [0; 64],
-        plans: [0; 4096],
-        splits: zeros(),
-        barred: [0; 64],
-        order: first_order(),
-        count: 0,
-    }
 }
 
 // Is the plan lower than that of slot j?
@@ -75,9 +61,9 @@ fn lower_bytes(plans: &[u8; 4096], j: usize, s: usize, plan: &[u8]) -> bool
 }
 
 // Does the candidate come before that of slot j? The bytes decide only where the costs are equal.
-fn earlier<'a>(
-    costs: &'a [i64; 64],
-    plans: &'a [u8; 4096],
+fn earlier(
+    costs: &[i64; 64],
+    plans: &[u8; 4096],
     j: usize,
     s: usize,
     cost: i64,
@@ -97,10 +83,10 @@ fn earlier<'a>(
 }
 
 // How many of the first n slots of `order` hold candidates that stay before the new one.
-fn place<'a>(
-    costs: &'a [i64; 64],
-    plans: &'a [u8; 4096],
-    order: &'a [usize; 64],
+fn place(
+    costs: &[i64; 64],
+    plans: &[u8; 4096],
+    order: &[usize; 64],
     n: usize,
     s: usize,
     cost: i64,
@@ -147,7 +133,7 @@ fn move_up(order: &mut [usize; 64], i: usize, n: usize)
 }
 
 // The first slot goes to place n - 1, and those up to there move down by one.
-fn move_back(order: &mut [usize; 64], n: usize)
+pub fn move_back(order: &mut [usize; 64], n: usize)
     requires { ⌜ (length (now order) ≡ 64) × (1 ≤ n) × (n ≤ 64) ⌝ }
     ensures { λ _. ⌜ now (order .exit) ≡ movedBack n (now (order .entry)) ⌝ }
 {
@@ -172,76 +158,81 @@ fn spare_place(n: usize, k: usize) -> usize
     k - 1
 }
 
-// The candidate goes in front of the first that it comes before, or to the end. No more than k are kept.
-pub fn insert(p: Pool, k: usize, s: usize, cost: i64, plan: &[u8], split: usize, mask: u8) -> Pool
-    requires { ⌜ Formed p × (1 ≤ s) × (s ≤ 64) × (1 ≤ k) × (k ≤ 64) × (p .count ≤ k) × (length (now plan) ≡ s) ⌝ }
-    ensures { λ r. ⌜ Inserted s k (record { cost = cost; plan = now (plan .entry); split = split; mask = mask }) p r ⌝ }
+// Do k wait, of which the last costs less? Then the candidate would not be kept.
+pub fn beyond(costs: &[i64; 64], order: &[usize; 64], n: usize, k: usize, cost: i64) -> bool
+    requires { ⌜ Slots (now order) × (1 ≤ k) × (k ≤ 64) ⌝ }
+    ensures { λ r. ⌜ r ≡ beyondOf n k cost (now (costs .entry)) (now (order .entry)) ⌝ }
 {
-    let n = p.count;
-    let i = place(&p.costs, &p.plans, &p.order, n, s, cost, plan);
+    if n != k {
+        return false;
+    }
+    let slot = order[k - 1];
+    let last = costs[slot];
+    last < cost
+}
+
+// The candidate goes in front of the first of the n that it comes before, or to the end. No more than k are kept. Gives how many wait then.
+pub fn insert(
+    costs: &mut [i64; 64],
+    plans: &mut [u8; 4096],
+    splits: &mut [usize; 64],
+    barred: &mut [u8; 64],
+    order: &mut [usize; 64],
+    n: usize,
+    k: usize,
+    s: usize,
+    cost: i64,
+    plan: &[u8],
+    split: usize,
+    mask: u8,
+) -> usize
+    requires { ⌜ Formed (poolOf (now costs) (now plans) (now splits) (now barred) (now order) n) × (1 ≤ s) × (s ≤ 64) × (1 ≤ k) × (k ≤ 64) × (n ≤ k) × (length (now plan) ≡ s) ⌝ }
+    ensures { λ r. ⌜ Inserted s k (record { cost = cost; plan = now (plan .entry); split = split; mask = mask }) (poolOf (now (costs .entry)) (now (plans .entry)) (now (splits .entry)) (now (barred .entry)) (now (order .entry)) n) (poolOf (now (costs .exit)) (now (plans .exit)) (now (splits .exit)) (now (barred .exit)) (now (order .exit)) r) ⌝ }
+{
+    let i = place(costs, plans, order, n, s, cost, plan);
     if i == k {
-        return p;
+        return n;
     }
     let at = spare_place(n, k);
-    let mut q = p;
-    let slot = q.order[at];
-    q.costs[slot] = cost;
-    write_row(&mut q.plans, slot, s, plan);
-    q.splits[slot] = split;
-    q.barred[slot] = mask;
-    move_up(&mut q.order, i, at);
-    q.count = at + 1;
-    q
+    let slot = order[at];
+    costs[slot] = cost;
+    write_row(plans, slot, s, plan);
+    splits[slot] = split;
+    barred[slot] = mask;
+    move_up(order, i, at);
+    at + 1
 }
 
-// The first candidate is taken away.
-pub fn pop(p: Pool) -> Pool
-    requires { ⌜ Formed p × (1 ≤ p .count) ⌝ }
-    ensures { λ r. ⌜ Popped p r ⌝ }
+// The plan of slot j.
+pub fn read_row(plans: &[u8; 4096], j: usize, s: usize, out: &mut [u8])
+    requires { ⌜ (length (now plans) ≡ 4096) × (j < 64) × (s ≤ 64) × (length (now out) ≡ s) ⌝ }
+    ensures { λ _. ⌜ now (out .exit) ≡ row s (now (plans .entry)) j ⌝ }
 {
-    let n = p.count;
-    let mut q = p;
-    move_back(&mut q.order, n);
-    q.count = n - 1;
-    q
-}
-
-// The first candidate's cost.
-pub fn first_cost(p: Pool) -> i64
-    requires { ⌜ Formed p × (1 ≤ p .count) ⌝ }
-    ensures { λ r. ⌜ ((s : ℕ) → r ≡ firstEntry s p .cost) ⌝ }
-{
-    let slot = p.order[0];
-    p.costs[slot]
-}
-
-// The state where it splits from its parent.
-pub fn first_split(p: Pool) -> usize
-    requires { ⌜ Formed p × (1 ≤ p .count) ⌝ }
-    ensures { λ r. ⌜ ((s : ℕ) → r ≡ firstEntry s p .split) ⌝ }
-{
-    let slot = p.order[0];
-    p.splits[slot]
-}
-
-// The set of actions barred there.
-pub fn first_mask(p: Pool) -> u8
-    requires { ⌜ Formed p × (1 ≤ p .count) ⌝ }
-    ensures { λ r. ⌜ ((s : ℕ) → r ≡ firstEntry s p .mask) ⌝ }
-{
-    let slot = p.order[0];
-    p.barred[slot]
-}
-
-// Its plan.
-pub fn first_plan(p: Pool, s: usize, out: &mut [u8])
-    requires { ⌜ Formed p × (1 ≤ p .count) × (1 ≤ s) × (s ≤ 64) × (length (now out) ≡ s) ⌝ }
-    ensures { λ _. ⌜ now (out .exit) ≡ firstEntry s p .plan ⌝ }
-{
-    let base = p.order[0] * 64;
+    let base = j * 64;
     let mut i: usize = 0;
     while i < s {
-        out[i] = p.plans[base + i];
+        out[i] = plans[base + i];
         i = i + 1;
+    }
+}
+
+// The pool in which one candidate waits. It splits at state 0, where no action is barred.
+pub fn single(s: usize, cost: i64, plan: &[u8]) -> Pool
+    requires { ⌜ (s ≤ 64) × (length (now plan) ≡ s) ⌝ }
+    ensures { λ r. ⌜ Formed r × (r .count ≡ 1) × (entries s r ≡ record { cost = cost; plan = now (plan .entry); split = 0; mask = 0 } ∷ []) ⌝ }
+{
+    let order = first_order();
+    let slot = order[0];
+    let mut costs: [i64; 64] = [0; 64];
+    costs[slot] = cost;
+    let mut plans: [u8; 4096] = [0; 4096];
+    write_row(&mut plans, slot, s, plan);
+    Pool {
+        costs: costs,
+        plans: plans,
+        splits: zeros(),
+        barred: [0; 64],
+        order: order,
+        count: 1,
     }
 }

@@ -1,24 +1,21 @@
--- The child goes into the pool with the cost and the bytes that its definition gives.
+-- The child goes into the pool with the bytes of its walk.
 -- Assumes nothing.
-use mathlib.Core.Path.{_≡_, refl, sym, ap, _∙_}
+use mathlib.Core.Path.{_≡_, refl, sym, _∙_}
 use mathlib.Core.List.{List, [], _∷_, _++_}
 use Prim.Native.Nat.{ℕ, _≤_}
 use native.Mathlib.Omega.{arith}
-use lib.IntN.{ℤ, pos, _+ℤ_, _-ℤ_, _*ℤ_}
-use mir.Syntax.{w64}
-use mir.Val.{toZ, ofZ}
-use lib.ListN.{length, getD, take, drop}
+use lib.ListN.{length, take, drop}
 use lib.Seq.{length-take-le}
 use Rattle.model.specs.Model.{Words, stateCount, action}
 use Rattle.accepted.specs.Facts.{accepted}
 use Rattle.costs.proofs.Sums.{read64}
-use Rattle.table.specs.Table.{rowOf}
 use Rattle.stored.specs.Entry.{Entry}
-use Rattle.stored.specs.Children.{childEntry}
-use Rattle.build.specs.Walk.{walkBy, chosen}
-use Rattle.child.proofs.Plans.{usable}
-use Rattle.engine.specs.Engine.{entryOf}
-use Rattle.engine.proofs.Child.{Facts, facts, added}
+use Rattle.build.specs.Walk.{chosen}
+use Rattle.pool.specs.declared.Pool.{Pool}
+use Rattle.pool.specs.Entries.{poolOf}
+use Rattle.pool.proofs.Insertion.{beyond-kept}
+use Rattle.engine.specs.Engine.{childOf}
+use Rattle.engine.proofs.Children.{added}
 use Rattle.engine.proofs.Parts as parts
 use Rattle.engine.proofs.add_child.Statement.{statement}
 use Rattle.engine.proofs.add_child.Tie as tie
@@ -26,126 +23,115 @@ use Rattle.engine.proofs.add_child.Tie as tie
 abbrev ws : tie.Start → Words
 ws s = s .args .b .now
 
-abbrev en : tie.Start → Entry
-en s = entryOf (s .args .e) (s .args .plan .now)
+abbrev child : tie.Start → Entry
+child s = childOf (ws s) (s .args .plan .now) (s .args .p) (s .args .d)
 
 few : (s : tie.Start) → s .args .z .s ≤ 64
-few s = omega (arith, s .pre .0 .sizes .s-is, accepted (ws s) (s .pre .0 .ok) .sizes .s-high)
-
-known : (s : tie.Start) → Facts (ws s) (s .args .q .now) (en s) (s .args .w .now) (s .args .p) (s .args .c) (getD (s .args .plan .now) (s .args .p) 0)
-known s =
-    facts (ws s) (s .args .z) (s .args .x .now) (s .args .q .now) (s .args .best .now) (s .pre .0) (en s) (s .pre .1 .right) (s .args .w .now)
-    (s .pre .1 .weights) (s .args .p) (s .args .c) (s .args .mask) (s .pre .2)
+few s = omega (arith, s .pre .1 .s-is, accepted (ws s) (s .pre .0) .sizes .s-high)
 
 row-long : (row : List ℕ) → length row ≡ 64 → (s : tie.Start) → length (take (s .args .z .s) row) ≡ s .args .z .s
 row-long row h s = length-take-le (s .args .z .s) row (omega (arith, few s))
 
-abbrev walk : tie.Start → List ℕ
-walk s = walkBy (action (ws s)) (chosen (ws s) (s .args .plan .now) (s .args .p) (s .args .c)) (stateCount (ws s)) 0 (0 ∷ [])
-
--- the bytes of the walk are the child's, and stand before the rest of the row
-module _ {o : List ℕ} (s : tie.Start) (rest : List ℕ) (e : o ≡ walk s) where
-  long : length (childEntry (ws s) (en s) (s .args .p) .plan) ≡ s .args .z .s
-  long = known s .child-long ∙ sym (s .pre .0 .sizes .s-is)
+-- the bytes of the walk stand before the rest of the row
+module _ {o : List ℕ} (s : tie.Start) (rest : List ℕ) (e : o ≡ child s .plan) where
+  long : length (child s .plan) ≡ s .args .z .s
+  long =
+      parts.walk-long (action (ws s)) (chosen (ws s) (s .args .plan .now) (s .args .p) (s .args .d .action)) (stateCount (ws s)) 0 (0 ∷ [])
+      ∙ sym (s .pre .1 .s-is)
 
   grown : s .args .z .s ≤ length (o ++ rest)
-  grown = parts.grown (s .args .z .s) rest (childEntry (ws s) (en s) (s .args .p) .plan) (e ∙ known s .plan-is) long
+  grown = parts.grown (s .args .z .s) rest (child s .plan) e long
 
-  front : take (s .args .z .s) (o ++ rest) ≡ childEntry (ws s) (en s) (s .args .p) .plan
-  front = parts.front (s .args .z .s) rest (childEntry (ws s) (en s) (s .args .p) .plan) (e ∙ known s .plan-is) long
+  front : take (s .args .z .s) (o ++ rest) ≡ child s .plan
+  front = parts.front (s .args .z .s) rest (child s .plan) e long
 
   front-long : length (take (s .args .z .s) (o ++ rest)) ≡ s .args .z .s
-  front-long = parts.front-long (s .args .z .s) rest (childEntry (ws s) (en s) (s .args .p) .plan) (e ∙ known s .plan-is) long
+  front-long = parts.front-long (s .args .z .s) rest (child s .plan) e long
 
--- the cost that is passed on is the child's
-money : (s : tie.Start) (r : ℤ)
-    → r ≡ toZ w64 (ofZ w64 (s .args .e .cost)) +ℤ pos (getD (s .args .w .now) (s .args .p) 0)
-    *ℤ (rowOf (s .args .q .now) (s .args .p) (s .args .c) -ℤ rowOf (s .args .q .now) (s .args .p) (getD (s .args .plan .now) (s .args .p) 0))
-    → toZ w64 (ofZ w64 r) ≡ childEntry (ws s) (en s) (s .args .p) .cost
-money s r h =
-    let k = known s in
-    ap (λ (z : ℤ). toZ w64 (ofZ w64 z)) (rw (read64 (s .args .e .cost) (k .cost-fits .sfits)) at h ∙ k .cost-is)
-    ∙ read64 (childEntry (ws s) (en s) (s .args .p) .cost) (k .child-fits .sfits)
+abbrev pool : tie.Start → Pool
+pool s = poolOf (s .args .cs .now) (s .args .ps .now) (s .args .ss .now) (s .args .ms .now) (s .args .os .now) (s .args .n)
 
-shared-slice-read-f : tie.Need-shared-slice-read-f
-shared-slice-read-f c = known (c .before .before) .in-plan
+beyond-requires : tie.Need-beyond-requires
+beyond-requires c κs =
+    let w = c .before .before .before .before .pre .7 in
+    (w .formed .slots, w .k-low, w .k-high)
 
-cast-f : tie.Need-cast-f
-cast-f c = omega (arith, known (c .before .before) .own-small)
+returns : tie.Need-returns
+returns c =
+    let s = c .before .before .before .before .before .before in
+    let w = s .pre .7 in
+    let x = s .args .d .cost in (
+      w,
+      beyond-kept (pool s) (stateCount (ws s)) (s .args .k) (child s) (w .formed) (w .few) (w .k-low)
+          (rw (read64 x (c .before .before .struct-told .given .0 .1)) at (sym (c .before .beyond .ensures) ∙ c .if1 .taken)) .kept,
+    )
 
-child-cost-requires : tie.Need-child-cost-requires
-child-cost-requires c κs =
-    let s = c .before .before .before in
-    let k = known s in
-    (k .p-small, k .c-small, k .own-small, rw (read64 (s .args .e .cost) (k .cost-fits .sfits)) (k .movable))
+abbrev from : tie.After-zeros → tie.Start
+from a = a .before .before .before .before .before .before .before
 
 zeros-requires : tie.Need-zeros-requires
 zeros-requires c κs = tt
 
 array-borrow-prefix-row : tie.Need-array-borrow-prefix-row
-array-borrow-prefix-row c =
-    let s = c .before .before .before .before .before in
-    omega (arith, few s, c .zeros .ensures)
+array-borrow-prefix-row c = omega (arith, few (from c), c .zeros .ensures)
 
 slice-aggregate-build : tie.Need-slice-aggregate-build
-slice-aggregate-build c =
-    let s = c .before .before .before .before .before .before in
-    sym (row-long (c .before .zeros .result) (c .before .zeros .ensures) s)
+slice-aggregate-build c = sym (row-long (c .before .zeros .result) (c .before .zeros .ensures) (from (c .before)))
 
 build-requires : tie.Need-build-requires
 build-requires c κs =
-    let s = c .before .before .before .before .before .before in
-    let h = s .pre in (
-      h .0 .ok,
-      h .0 .sizes,
-      h .0 .index,
-      h .0 .firsts,
-      usable (ws s) (h .0 .ok) (en s) (h .1 .right) (s .args .p) (h .2 .state),
-      h .2 .state,
-      known s .c-action,
-      row-long (c .before .zeros .result) (c .before .zeros .ensures) s ∙ h .0 .sizes .s-is,
-    )
+    let s = from (c .before) in
+    let h = s .pre in
+    (h .0, h .1, h .2, h .3, h .4, h .5, h .6, row-long (c .before .zeros .result) (c .before .zeros .ensures) s ∙ h .1 .s-is)
+
+-- after the build
+module _ (a : tie.After-build) where
+  abbrev s : tie.Start
+  s = from (a .before .before)
+
+  abbrev rest : List ℕ
+  rest = drop (s .args .z .s) (a .before .before .zeros .result)
 
 array-share-prefix-row : tie.Need-array-share-prefix-row
 array-share-prefix-row c =
-    let s = c .before .before .before .before .before .before .before .before in
-    grown s (drop (s .args .z .s) (c .before .before .before .zeros .result)) (c .before .build .ensures)
+    let a = c .before .before .before .before .before .before in
+    grown (s a) (rest a) (a .build .ensures)
 
 slice-aggregate-insert : tie.Need-slice-aggregate-insert
 slice-aggregate-insert c =
-    let s = c .before .before .before .before .before .before .before .before .before in
-    sym (front-long s (drop (s .args .z .s) (c .before .before .before .before .zeros .result)) (c .before .before .build .ensures))
+    let a = c .before .before .before .before .before .before .before in
+    sym (front-long (s a) (rest a) (a .build .ensures))
 
 insert-requires : tie.Need-insert-requires
 insert-requires c κs =
-    let s = c .before .before .before .before .before .before .before .before .before in
-    let w = s .pre .3 in (
+    let a = c .before .before .before .before .before .before .before .before in
+    let h = s a .pre in
+    let w = h .7 in (
       w .formed,
-      omega (arith, s .pre .0 .sizes .s-is, s .pre .2 .state),
-      few s,
+      omega (arith, h .1 .s-is, h .5),
+      few (s a),
       w .k-low,
       w .k-high,
       w .few,
-      front-long s (drop (s .args .z .s) (c .before .before .before .before .zeros .result)) (c .before .before .build .ensures),
+      front-long (s a) (rest a) (a .build .ensures),
     )
 
-returns : tie.Need-returns
-returns c =
-    let s = c .before .before .before .before .before .before .before .before .before .before in
+returns-2 : tie.Need-returns-2
+returns-2 c =
+    let a = c .before .before .before .before .before .before .before .before .before in
+    let w = s a .pre .7 in
     let i = c .insert .ensures in (
-      record { k-low = s .pre .3 .k-low; k-high = s .pre .3 .k-high; formed = i .formed; few = i .count-high },
-      added (stateCount (ws s)) (childEntry (ws s) (en s) (s .args .p)) (s .pre .0 .sizes .s-is)
-          (money s _ (c .before .before .before .before .before .before .child-cost .ensures))
-          (front s (drop (s .args .z .s) (c .before .before .before .before .before .zeros .result)) (c .before .before .before .build .ensures)) refl (s .pre .2 .mask-is) i,
+      record { k-low = w .k-low; k-high = w .k-high; formed = i .formed; few = i .count-high },
+      added (stateCount (ws (s a))) (child (s a)) (s a .pre .1 .s-is) (read64 (s a .args .d .cost) (c .before .struct-told2 .given .0 .1))
+          (front (s a) (rest a) (a .build .ensures)) refl refl i,
     )
 
 pub add-child-spec : {M : Type 1} → statement M
 add-child-spec =
     tie.close
     (tie.spec
-    shared-slice-read-f
-    cast-f
-    child-cost-requires
+    beyond-requires
+    returns
     zeros-requires
     array-borrow-prefix-row
     slice-aggregate-build
@@ -153,4 +139,4 @@ add-child-spec =
     array-share-prefix-row
     slice-aggregate-insert
     insert-requires
-    returns)
+    returns-2)

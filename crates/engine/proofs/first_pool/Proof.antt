@@ -1,22 +1,22 @@
 -- The first best actions make the first policy, and it waits alone.
 -- Assumes nothing.
-use mathlib.Core.Path.{_≡_, refl, sym, _∙_, subst}
-use mathlib.Core.List.{List}
+use mathlib.Core.Path.{_≡_, sym, _∙_, subst}
+use mathlib.Core.List.{List, [], _∷_, _++_}
 use Prim.Native.Nat.{ℕ, _≤_, _<_}
 use native.Mathlib.Omega.{arith}
 use lib.ListN.{length, getD, take, drop}
 use lib.Seq.{length-take-le}
-use Rattle.model.specs.Model.{Words, stateCount, actionCount}
+use Rattle.model.specs.Model.{Words, stateCount, actionCount, action}
 use Rattle.accepted.specs.Facts.{accepted}
 use Rattle.accepted.specs.Shape.{shape}
 use Rattle.accepted.specs.Demands.{bestPolicy}
 use Rattle.costs.proofs.Sums.{read64}
 use Rattle.build.specs.Best.{bestAt}
+use Rattle.build.specs.Walk.{walkBy, chosen}
 use Rattle.build.proofs.Best.{best-at-below}
 use Rattle.engine.specs.Engine.{firstCandidate}
-use Rattle.engine.proofs.Child.{added}
 use Rattle.engine.proofs.Parts.{grown, front, front-long}
-use Rattle.engine.proofs.Start.{first-walk, best-long, none-counted, alone}
+use Rattle.engine.proofs.Start.{first-walk, best-long, first-alone}
 use borrow.Author.Needs.{needs}
 use Rattle.engine.proofs.first_pool.Statement.{statement}
 use Rattle.engine.proofs.first_pool.Tie as tie
@@ -71,41 +71,48 @@ build-requires c κs =
       row-long (c .before .before .zeros2 .result) (c .before .before .zeros2 .ensures) s ∙ h .1 .s-is,
     )
 
-empty-requires : tie.Need-empty-requires
-empty-requires c κs = tt
+-- after the build
+module _ (a : tie.After-build) where
+  abbrev start : tie.Start
+  start = a .before .before .before .before .before .before
+
+  abbrev rest : List ℕ
+  rest = drop (start .args .z .s) (a .before .before .before .zeros2 .result)
+
+  abbrev none : List ℕ
+  none = take (start .args .z .s) (a .before .before .before .before .zeros .result)
+
+  module _ {o : List ℕ}
+      (e : o ≡ walkBy (action (ws start)) (chosen (ws start) none 0 (getD (start .args .best .now) 0 0)) (stateCount (ws start)) 0 (0 ∷ [])) where
+    built : o ≡ bestPolicy (ws start)
+    built = e ∙ first-walk (ws start) (start .pre .0) none _ (best-first start)
+
+    grown-row : start .args .z .s ≤ length (o ++ rest)
+    grown-row = grown (start .args .z .s) rest (bestPolicy (ws start)) built (long start)
+
+    front-row : take (start .args .z .s) (o ++ rest) ≡ bestPolicy (ws start)
+    front-row = front (start .args .z .s) rest (bestPolicy (ws start)) built (long start)
+
+    front-row-long : length (take (start .args .z .s) (o ++ rest)) ≡ start .args .z .s
+    front-row-long = front-long (start .args .z .s) rest (bestPolicy (ws start)) built (long start)
 
 array-share-prefix-row : tie.Need-array-share-prefix-row
-array-share-prefix-row c =
-    let s = c .before .before .before .before .before .before .before .before in
-    grown (s .args .z .s) (drop (s .args .z .s) (c .before .before .before .before .before .zeros2 .result)) (bestPolicy (ws s)) (c .before .before .build .ensures ∙ first-walk (ws s) (s .pre .0) (take (s .args .z .s) (c .before .before .before .before .before .before .zeros .result)) _ (best-first s)) (long s)
+array-share-prefix-row c = grown-row (c .before) (c .before .build .ensures)
 
-slice-aggregate-insert : tie.Need-slice-aggregate-insert
-slice-aggregate-insert c =
-    let s = c .before .before .before .before .before .before .before .before .before in
-    sym (front-long (s .args .z .s) (drop (s .args .z .s) (c .before .before .before .before .before .before .zeros2 .result)) (bestPolicy (ws s)) (c .before .before .before .build .ensures ∙ first-walk (ws s) (s .pre .0) (take (s .args .z .s) (c .before .before .before .before .before .before .before .zeros .result)) _ (best-first s)) (long s))
+slice-aggregate-single : tie.Need-slice-aggregate-single
+slice-aggregate-single c = sym (front-row-long (c .before .before) (c .before .before .build .ensures))
 
-insert-requires : tie.Need-insert-requires
-insert-requires c κs =
-    let s = c .before .before .before .before .before .before .before .before .before in
-    let e = c .before .empty .ensures in (
-      e .0,
-      omega (arith, s .pre .1 .s-is, shape (ws s) (s .pre .0) .some-state),
-      few s,
-      s .pre .5,
-      s .pre .6,
-      omega (arith, none-counted (stateCount (ws s)) _ (e .0) (e .1 (stateCount (ws s)))),
-      front-long (s .args .z .s) (drop (s .args .z .s) (c .before .before .before .before .before .before .zeros2 .result)) (bestPolicy (ws s)) (c .before .before .before .build .ensures ∙ first-walk (ws s) (s .pre .0) (take (s .args .z .s) (c .before .before .before .before .before .before .before .zeros .result)) _ (best-first s)) (long s),
-    )
+single-requires : tie.Need-single-requires
+single-requires c κs = (few (start (c .before .before)), front-row-long (c .before .before) (c .before .before .build .ensures))
 
 returns : tie.Need-returns
 returns c =
-    let s = c .before .before .before .before .before .before .before .before .before .before in
-    let i = c .insert .ensures in
-    let e = c .before .before .empty .ensures in (
-      record { k-low = s .pre .5; k-high = s .pre .6; formed = i .formed; few = i .count-high },
-      added (stateCount (ws s)) (firstCandidate (ws s)) (s .pre .1 .s-is) (read64 (s .args .cost) (s .fits .cost .sfits) ∙ s .pre .4)
-          (front (s .args .z .s) (drop (s .args .z .s) (c .before .before .before .before .before .before .before .zeros2 .result)) (bestPolicy (ws s)) (c .before .before .before .before .build .ensures ∙ first-walk (ws s) (s .pre .0) (take (s .args .z .s) (c .before .before .before .before .before .before .before .before .zeros .result)) _ (best-first s)) (long s)) refl refl i
-          ∙ alone (s .args .k) (firstCandidate (ws s)) _ (s .pre .5) (e .1 (stateCount (ws s))),
+    let a = c .before .before .before in
+    let s = start a in
+    let i = c .single .ensures in (
+      record { k-low = s .pre .5; k-high = s .pre .6; formed = i .0; few = omega (arith, i .1, s .pre .5) },
+      first-alone (c .single .result) (stateCount (ws s)) (firstCandidate (ws s)) (s .pre .1 .s-is) (read64 (s .args .cost) (s .fits .cost .sfits) ∙ s .pre .4)
+          (front-row a (a .build .ensures)) (i .2),
     )
 
 pub first-pool-spec : {M : Type 1} → statement M
@@ -120,8 +127,7 @@ first-pool-spec =
     array-borrow-prefix-row
     slice-aggregate-build-2
     build-requires
-    empty-requires
     array-share-prefix-row
-    slice-aggregate-insert
-    insert-requires
+    slice-aggregate-single
+    single-requires
     returns)

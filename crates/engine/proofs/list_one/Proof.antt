@@ -1,10 +1,12 @@
 -- The first candidate's cost and bytes are written to place j, and it is split.
 -- Assumes nothing.
-use mathlib.Core.Path.{_≡_, sym, ap, _∙_, subst}
-use Prim.Native.Nat.{ℕ, _+_, _*_, _≤_}
+use mathlib.Core.Path.{_≡_, refl, sym, ap, _∙_, subst}
+use mathlib.Core.List.{List}
+use Prim.Native.Nat.{ℕ, _+_, _*_, _-_, _≤_, _<_}
 use native.Mathlib.Nat.{mul-le-mul}
 use native.Mathlib.Omega.{arith}
-use lib.ListN.{length, set}
+use lib.ListN.{length, set, getD, take, drop, length-set}
+use borrow.Rule.Slice.PartMut.{putMid}
 use Rattle.model.specs.Model.{Words, stateCount}
 use Rattle.accepted.specs.Facts.{accepted}
 use Rattle.accepted.specs.Shape.{shape}
@@ -12,7 +14,9 @@ use Rattle.bytes_io.specs.Slices.{written}
 use Rattle.stored.specs.Entry.{Entry}
 use Rattle.stored.specs.Children.{plan-model}
 use Rattle.value.proofs.Bytes.{policy-long}
-use Rattle.pool.specs.Entries.{firstEntry}
+use Rattle.pool.specs.declared.Pool.{Pool}
+use Rattle.pool.specs.Entries.{poolOf, firstEntry}
+use Rattle.pool.proofs.Moves.{slot-low}
 use Rattle.engine.proofs.First.{cost-read}
 use Rattle.engine.proofs.Parts.{part-long, put-long, put-is, put-read}
 use borrow.Author.Needs.{needs}
@@ -22,8 +26,11 @@ use Rattle.engine.proofs.list_one.Tie as tie
 abbrev ws : tie.Start → Words
 ws s = s .args .b .now
 
+abbrev pool : tie.Start → Pool
+pool s = poolOf (s .args .cs .now) (s .args .ps .now) (s .args .ss .now) (s .args .ms .now) (s .args .os .now) (s .args .n)
+
 abbrev first : tie.Start → Entry
-first s = firstEntry (stateCount (ws s)) (s .args .pool)
+first s = firstEntry (stateCount (ws s)) (pool s)
 
 few : (s : tie.Start) → s .args .z .s ≤ 64
 few s = omega (arith, s .pre .0 .sizes .s-is, accepted (ws s) (s .pre .0 .ok) .sizes .s-high)
@@ -35,8 +42,8 @@ room : (s : tie.Start) → s .args .j * s .args .z .s + s .args .z .s ≤ length
 room s = subst (λ (n : ℕ). s .args .j * n + n ≤ length (s .args .plans .now)) (sym (s .pre .0 .sizes .s-is)) (s .pre .6)
 
 -- its bytes, as many as the states
-row-same : (s : tie.Start) → firstEntry (s .args .z .s) (s .args .pool) .plan ≡ first s .plan
-row-same s = ap (λ (n : ℕ). firstEntry n (s .args .pool) .plan) (s .pre .0 .sizes .s-is)
+row-same : (s : tie.Start) → firstEntry (s .args .z .s) (pool s) .plan ≡ first s .plan
+row-same s = ap (λ (n : ℕ). firstEntry n (pool s) .plan) (s .pre .0 .sizes .s-is)
 
 long : (s : tie.Start) → length (first s .plan) ≡ stateCount (ws s)
 long s = policy-long (ws s) (s .pre .0 .ok) (first s .plan) (plan-model (ws s) (s .pre .0 .ok) (first s) (s .pre .3)) 0 (shape (ws s) (s .pre .0 .ok) .some-state)
@@ -51,66 +58,98 @@ add-to c =
     let s = c .before in
     omega (arith, at-low s, few s)
 
-first-cost-requires : tie.Need-first-cost-requires
-first-cost-requires c κs = search needs
+low : (s : tie.Start) → getD (s .args .os .now) 0 0 < 64
+low s = slot-low (s .pre .1 .formed .slots) 0 (omega arith)
 
-mul-t15 : tie.Need-mul-t15
-mul-t15 c = search needs
+element-copy-out-slot : tie.Need-element-copy-out-slot
+element-copy-out-slot c = omega arith
+
+mul-costs : tie.Need-mul-costs
+mul-costs c = omega (arith, low (c .before .before))
+
+element-copy-out-costs : tie.Need-element-copy-out-costs
+element-copy-out-costs c = low (c .before .before)
+
+mul-t26 : tie.Need-mul-t26
+mul-t26 c = search needs
 
 slice-set-from-costs : tie.Need-slice-set-from-costs
-slice-set-from-costs c = search needs
+slice-set-from-costs c = c .before .before .before .pre .5
 
-sub-first-plan : tie.Need-sub-first-plan
-sub-first-plan c = search needs
+sub-read-row : tie.Need-sub-read-row
+sub-read-row c = search needs
 
-part-first-plan-start : tie.Need-part-first-plan-start
-part-first-plan-start c = search needs
+part-read-row-start : tie.Need-part-read-row-start
+part-read-row-start c = search needs
 
-part-first-plan-end : tie.Need-part-first-plan-end
-part-first-plan-end c = room (c .before .before)
+part-read-row-end : tie.Need-part-read-row-end
+part-read-row-end c = room (c .before .before .before .before)
 
-first-plan-requires : tie.Need-first-plan-requires
-first-plan-requires c κs =
-    let s = c .before .before .before in (
-      s .pre .1 .formed,
-      s .pre .2,
-      omega (arith, s .pre .0 .sizes .s-is, shape (ws s) (s .pre .0 .ok) .some-state),
+read-row-requires : tie.Need-read-row-requires
+read-row-requires c κs =
+    let s = c .before .before .before .before .before in (
+      s .pre .1 .formed .plans-long,
+      low s,
       few s,
       part-long (s .args .plans .now) (s .args .j * s .args .z .s) (s .args .z .s) (stateCount (ws s)) (s .pre .0 .sizes .s-is) (room s),
     )
 
+-- the bytes are written, and stand in their part
+module _ {ys : List ℕ} (s : tie.Start) (e : ys ≡ firstEntry (s .args .z .s) (pool s) .plan) where
+  abbrev at : ℕ
+  at = s .args .j * s .args .z .s
+
+  rows-long : length (putMid at (at + s .args .z .s - at) (s .args .plans .now) ys) ≡ length (s .args .plans .now)
+  rows-long = put-long (s .args .plans .now) at (s .args .z .s) (stateCount (ws s)) (s .pre .0 .sizes .s-is) (room s) (first s .plan) (e ∙ row-same s) (long s)
+
+  rows-read : take (at + s .args .z .s - at) (drop at (putMid at (at + s .args .z .s - at) (s .args .plans .now) ys)) ≡ first s .plan
+  rows-read = put-read (s .args .plans .now) at (s .args .z .s) (stateCount (ws s)) (s .pre .0 .sizes .s-is) (room s) (first s .plan) (e ∙ row-same s) (long s)
+
+  rows-are : putMid at (at + s .args .z .s - at) (s .args .plans .now) ys
+      ≡ written (s .args .plans .now) (s .args .j * stateCount (ws s)) (stateCount (ws s)) (first s .plan)
+  rows-are =
+      put-is (s .args .plans .now) at (s .args .z .s) (stateCount (ws s)) (s .pre .0 .sizes .s-is) (room s) (first s .plan) (e ∙ row-same s) (long s)
+      ∙ ap (λ (n : ℕ). written (s .args .plans .now) (s .args .j * n) (stateCount (ws s)) (first s .plan)) (s .pre .0 .sizes .s-is)
+
+abbrev from : tie.After-read-row → tie.Start
+from r = r .before .before .before .before .before .before
+
 sub-split-first : tie.Need-sub-split-first
-sub-split-first c = search needs
+sub-split-first c = omega arith
 
 part-split-first-start : tie.Need-part-split-first-start
-part-split-first-start c = search needs
+part-split-first-start c = omega arith
 
 part-split-first-end : tie.Need-part-split-first-end
 part-split-first-end c =
-    let s = c .before .before .before .before .before .before .before in
-    omega (arith, room s, put-long (s .args .plans .now) (s .args .j * s .args .z .s) (s .args .z .s) (stateCount (ws s)) (s .pre .0 .sizes .s-is) (room s) (first s .plan) (c .before .before .before .first-plan .ensures ∙ row-same s) (long s))
+    let r = c .before .before .before .before .before .before .before .before in
+    omega (arith, room (from r), rows-long (from r) (r .read-row .ensures))
 
 split-first-requires : tie.Need-split-first-requires
 split-first-requires c κs =
-    let s = c .before .before .before .before .before .before .before .before in
-    (s .pre .0, s .pre .1, s .pre .2, s .pre .3, put-read (s .args .plans .now) (s .args .j * s .args .z .s) (s .args .z .s) (stateCount (ws s)) (s .pre .0 .sizes .s-is) (room s) (first s .plan) (c .before .before .before .before .first-plan .ensures ∙ row-same s) (long s))
+    let r = c .before .before .before .before .before .before .before .before .before in
+    let h = from r .pre in
+    (h .0, h .1, h .2, h .3, rows-read (from r) (r .read-row .ensures))
 
 same-length : tie.Need-same-length
-same-length c = search needs
+same-length c =
+    let s = from (c .before .before .before .before .before .before .before .before .before .before) in
+    length-set (s .args .costs .now) (s .args .j) _
 
 same-length-2 : tie.Need-same-length-2
 same-length-2 c =
-    let s = c .before .before .before .before .before .before .before .before .before in
-    put-long (s .args .plans .now) (s .args .j * s .args .z .s) (s .args .z .s) (stateCount (ws s)) (s .pre .0 .sizes .s-is) (room s) (first s .plan) (c .before .before .before .before .before .first-plan .ensures ∙ row-same s) (long s)
+    let r = c .before .before .before .before .before .before .before .before .before .before in
+    rows-long (from r) (r .read-row .ensures)
 
 returns : tie.Need-returns
 returns c =
-    let s = c .before .before .before .before .before .before .before .before .before in (
+    let r = c .before .before .before .before .before .before .before .before .before .before in
+    let s = from r in (
       c .split-first .ensures .0,
       c .split-first .ensures .1,
       ap (set (s .args .costs .now) (s .args .j))
-          (cost-read (ws s) (s .args .z) (s .args .x .now) (s .args .q .now) (s .args .best .now) (s .pre .0) (first s) (s .pre .3) (c .before .before .before .before .before .before .before .first-cost .ensures (stateCount (ws s)))),
-      put-is (s .args .plans .now) (s .args .j * s .args .z .s) (s .args .z .s) (stateCount (ws s)) (s .pre .0 .sizes .s-is) (room s) (first s .plan) (c .before .before .before .before .before .first-plan .ensures ∙ row-same s) (long s) ∙ ap (λ (n : ℕ). written (s .args .plans .now) (s .args .j * n) (stateCount (ws s)) (first s .plan)) (s .pre .0 .sizes .s-is),
+          (cost-read (ws s) (s .args .z) (s .args .x .now) (s .args .q .now) (s .args .best .now) (s .pre .0) (first s) (s .pre .3) refl),
+      rows-are s (r .read-row .ensures),
     )
 
 pub list-one-spec : {M : Type 1} → statement M
@@ -119,13 +158,15 @@ list-one-spec =
     (tie.spec
     mul-at
     add-to
-    first-cost-requires
-    mul-t15
+    element-copy-out-slot
+    mul-costs
+    element-copy-out-costs
+    mul-t26
     slice-set-from-costs
-    sub-first-plan
-    part-first-plan-start
-    part-first-plan-end
-    first-plan-requires
+    sub-read-row
+    part-read-row-start
+    part-read-row-end
+    read-row-requires
     sub-split-first
     part-split-first-start
     part-split-first-end

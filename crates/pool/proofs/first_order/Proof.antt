@@ -1,6 +1,6 @@
 -- The first i places hold the first i slots.
 -- Assumes nothing.
-use mathlib.Core.Path.{_≡_, refl, sym, _∙_, subst}
+use mathlib.Core.Path.{_≡_, refl, sym, ap, _∙_, subst}
 use mathlib.Core.List.{_++_}
 use Prim.Native.Nat.{ℕ, _≤_, _+_, _-_}
 use native.Mathlib.Omega.{arith}
@@ -24,7 +24,7 @@ zeros-requires : tie.Need-zeros-requires Inv-loop μ-loop
 zeros-requires c κs = search needs
 
 loop-holds : tie.Need-loop-holds Inv-loop μ-loop
-loop-holds c = (omega arith, c .zeros .ensures, refl)
+loop-holds c = (omega arith, ap length (c .zeros .ensures), refl)
 
 mul-order : tie.Need-mul-order Inv-loop μ-loop
 mul-order c = search needs

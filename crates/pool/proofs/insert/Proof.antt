@@ -7,7 +7,7 @@ use lib.ListN.{getD, set, take}
 use Rattle.costs.proofs.Sums.{read64}
 use Rattle.pool.specs.declared.Pool.{Pool}
 use Rattle.stored.specs.Entry.{Entry}
-use Rattle.pool.specs.Entries.{earlierThan, firstYes, Inserted}
+use Rattle.pool.specs.Entries.{poolOf, earlierThan, firstYes, Inserted}
 use Rattle.pool.proofs.Moves.{slot-low}
 use Rattle.pool.proofs.Insertion.{unchanged, filled, place-before, filled-inserted}
 use borrow.Author.Needs.{needs}
@@ -17,22 +17,26 @@ use Rattle.pool.proofs.insert.Tie as tie
 place-requires : tie.Need-place-requires
 place-requires c κs = search needs
 
+-- the pool that comes in
+abbrev pool : tie.Start → Pool
+pool s = poolOf (s .args .costs .now) (s .args .plans .now) (s .args .splits .now) (s .args .barred .now) (s .args .order .now) (s .args .n)
+
 -- the new entry
 abbrev entry : tie.Start → Entry
 entry s = record { cost = s .args .cost; plan = s .args .plan .now; split = s .args .split; mask = s .args .mask }
 
 -- the place, by the cost as it was passed
-place-is : (a : tie.After-place) → let s = a .before .before .before .before .before .before in
-    a .place .result ≡ firstYes (earlierThan (s .args .cost) (s .args .plan .now) (s .args .s) (s .args .t1 .costs) (s .args .t1 .plans))
-    (take (s .args .t1 .count) (s .args .t1 .order))
+place-is : (a : tie.After-place) → let s = a .before .before .before .before .before in
+    a .place .result ≡ firstYes (earlierThan (s .args .cost) (s .args .plan .now) (s .args .s) (pool s .costs) (pool s .plans))
+    (take (pool s .count) (pool s .order))
 place-is a =
-    let s = a .before .before .before .before .before .before in
+    let s = a .before .before .before .before .before in
     rw (read64 (s .args .cost) (s .fits .cost .sfits)) at (a .place .ensures)
 
 returns : tie.Need-returns
 returns c =
-    let s = c .before .before .before .before .before .before .before in
-    unchanged (s .args .t1) (s .args .s) (s .args .k) (entry s) (s .pre) (c .before .place .result) (place-is (c .before)) (c .if1 .taken)
+    let s = c .before .before .before .before .before .before in
+    unchanged (pool s) (s .args .s) (s .args .k) (entry s) (s .pre) (c .before .place .result) (place-is (c .before)) (c .if1 .taken)
 
 spare-place-requires : tie.Need-spare-place-requires
 spare-place-requires c κs = search needs
@@ -49,10 +53,10 @@ module _ (c : tie.After-spare-place) where
   a = c .before .before
 
   abbrev s : tie.Start
-  s = a .before .before .before .before .before .before
+  s = a .before .before .before .before .before
 
   abbrev p : Pool
-  p = s .args .t1
+  p = pool s
 
   abbrev n : ℕ
   n = c .spare-place .result
@@ -84,22 +88,22 @@ write-row-requires c κs =
     let h = s (c .before .before) .pre in
     (h .0 .plans-long, low (c .before .before), h .2, h .6)
 
-mul-q : tie.Need-mul-q
-mul-q c = omega (arith, low (c .before .before .before))
+mul-splits : tie.Need-mul-splits
+mul-splits c = omega (arith, low (c .before .before .before))
 
-element-write-q : tie.Need-element-write-q
-element-write-q c = low (c .before .before .before)
+element-write-splits : tie.Need-element-write-splits
+element-write-splits c = low (c .before .before .before)
 
-element-write-q-2 : tie.Need-element-write-q-2
-element-write-q-2 c = low (c .before .before .before)
+element-write-barred : tie.Need-element-write-barred
+element-write-barred c = low (c .before .before .before)
 
 move-up-requires : tie.Need-move-up-requires
 move-up-requires c κs =
     let d = c .before .before .before .before in
     (s d .pre .0 .slots .long, before-n d, omega arith)
 
-add-q : tie.Need-add-q
-add-q c = search needs
+add-result : tie.Need-add-result
+add-result c = search needs
 
 returns-2 : tie.Need-returns-2
 returns-2 c =
@@ -128,9 +132,9 @@ insert-spec =
     mul-cost
     element-set-from-cost
     write-row-requires
-    mul-q
-    element-write-q
-    element-write-q-2
+    mul-splits
+    element-write-splits
+    element-write-barred
     move-up-requires
-    add-q
+    add-result
     returns-2)

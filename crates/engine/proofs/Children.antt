@@ -36,7 +36,7 @@ use Rattle.child.specs.Move.{Movable}
 use Rattle.child.proofs.Moves.{movable}
 use Rattle.child.proofs.Plans.{child-plan}
 use Rattle.child.proofs.Splits.{reaches-here}
-use Rattle.engine.specs.Engine.{Ready, ChildAt}
+use Rattle.engine.specs.Engine.{Ready, ChildAt, childOf}
 
 -- the actions that a set leaves are actions
 pub free-under : (n mask i m : ℕ) → i + m ≤ n → Every (λ c. c < n) (free mask i m)
@@ -137,3 +137,8 @@ pub added : {s k : ℕ} {x : ℤ} {bs : List ℕ} {p a : ℕ} {P r : Pool} (S : 
 added {s} {k} {x} {bs} {p} {a} {P} {r} S e hs hx hb hp ha i =
     subst (λ (d : Entry). entries S r ≡ take k (insert earlierEntry d (entries S P))) (λ t. record { cost = hx t; plan = hb t; split = hp t; mask = ha t })
     (subst (λ (n : ℕ). entries n r ≡ take k (insert earlierEntry (record { cost = x; plan = bs; split = p; mask = a }) (entries n P))) hs (i .kept))
+
+-- the child that is made is the child of e
+pub made-is : (ws : Words) (q : List ℤ) (e : Entry) (w : List ℕ) (p c f : ℕ) {x : ℤ} {m : ℕ} → Facts ws q e w p c f → x ≡ childEntry ws e p .cost → m ≡ maskAt e p
+    → childOf ws (e .plan) p (record { cost = x; action = c; mask = m }) ≡ childEntry ws e p
+made-is ws q e w p c f h hx hm = λ t. record { cost = hx t; plan = h .plan-is t; split = p; mask = hm t }
