@@ -61,7 +61,7 @@ pub record Facts (ws : Words) (q : List ℤ) (e : Entry) (w : List ℕ) (p c f :
   pub child-long : length (childEntry ws e p .plan) ≡ stateCount ws
   pub child-fits : SFits w64 (childEntry ws e p .cost)
 
-module _ (ws : Words) (z : Sizes) (x : List ℕ) (q : List ℤ) (best : List ℕ) (rd : Ready ws z x q best) (e : Entry) (ri : Right ws e) where
+module _ (ws : Words) (z : Sizes) (x nx : List ℕ) (q : List ℤ) (best : List ℕ) (rd : Ready ws z x nx q best) (e : Entry) (ri : Right ws e) where
   pub in-plan : (p : ℕ) → p < stateCount ws → p < length (e .plan)
   in-plan p h = omega (arith, policy-long ws (rd .ok) (e .plan) (plan-model ws (rd .ok) e ri) p h)
 

@@ -27,13 +27,13 @@ use Rattle.child.proofs.Splits.{none-unreached, none-left, own-action, own-smal
 use Rattle.engine.specs.Engine.{Ready, ChildAt, joined, admitted}
 use Rattle.engine.proofs.Children.{free-under, in-plan}
 
-module _ (ws : Words) (z : Sizes) (x : List ℕ) (q : List ℤ) (best : List ℕ) (rd : Ready ws z x q best) (e : Entry) (ri : Right ws e) (p : ℕ)
+module _ (ws : Words) (z : Sizes) (x nx : List ℕ) (q : List ℤ) (best : List ℕ) (rd : Ready ws z x nx q best) (e : Entry) (ri : Right ws e) (p : ℕ)
     (from : e .split ≤ p) (state : p < stateCount ws) (k : ℕ) (es : List Entry) where
   abbrev f : ℕ
   f = getD (e .plan) p 0
 
   pub byte : f ≡ byteAt (e .plan) p
-  byte = byte-is (e .plan) p 0 255 (in-plan ws z x q best rd e ri p state)
+  byte = byte-is (e .plan) p 0 255 (in-plan ws z x nx q best rd e ri p state)
 
   pub below-64 : p < 64
   below-64 = omega (arith, state, accepted ws (rd .ok) .sizes .s-high)

@@ -18,6 +18,7 @@ use Rattle.model.specs.Policy.{Policy}
 use Rattle.book.specs.Read.{SizesAre}
 use Rattle.book.specs.declared.Sizes.{Sizes}
 use Rattle.index.specs.Index.{IndexOf}
+use Rattle.nexts.specs.Nexts.{NextsOf}
 use Rattle.build.specs.Best.{RowsOf, BestOf}
 use Rattle.build.specs.Walk.{walkBy, chosen}
 use Rattle.reach.specs.Weights.{WeightsOf}
@@ -32,10 +33,11 @@ use Rattle.engine.specs.declared.Parent.{Parent}
 use Rattle.engine.specs.declared.Child.{Child}
 
 -- a checked book with its sizes, its index, its table of action costs and its first best actions
-pub record Ready (ws : Words) (z : Sizes) (x : List ℕ) (q : List ℤ) (best : List ℕ) : Type 0 where
+pub record Ready (ws : Words) (z : Sizes) (x nx : List ℕ) (q : List ℤ) (best : List ℕ) : Type 0 where
   pub ok : bookNumber ws ≡ 0
   pub sizes : SizesAre ws z
   pub index : IndexOf ws x
+  pub next : NextsOf ws nx
   pub rows : RowsOf ws q
   pub firsts : BestOf ws best
 

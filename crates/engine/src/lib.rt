@@ -3,7 +3,8 @@
 // its set is among the first K.
 //
 // The arrays of the pool are changed in place: cs (costs), ps (bytes of the policies), ss (split states), ms (sets of barred actions) and os (the order
-// of the slots), each by slot but the last, with the number n of those that wait.
+// of the slots), each by slot but the last, with the number n of those that wait. What is read of the book comes beside them: x (where each state
+// stands), nx (the next states of each action), q (the cost of each action) and best (the first best action of each state).
 use book::Sizes;
 use pool::Pool;
 ghost use mathlib.Core.Path.{_≡_};
@@ -13,7 +14,7 @@ ghost use lib.ListN.{length, set};
 ghost use Rattle.model.specs.Model.{stateCount, actionCount};
 ghost use Rattle.model.specs.Questions.{bookNumber};
 ghost use Rattle.book.specs.Read.{SizesAre};
-ghost use Rattle.index.specs.Index.{IndexOf};
+ghost use Rattle.nexts.specs.Nexts.{NextsOf};
 ghost use Rattle.build.specs.Best.{BestOf};
 ghost use Rattle.build.specs.Walk.{Usable};
 ghost use Rattle.engine.specs.Engine.{Ready, Parenting, Waiting, entryOf, childOf, joined, admitted, admittedFrom, splitPool, Found, firstCandidate, Ranked};
@@ -48,7 +49,7 @@ fn zeros() -> [u8; 64]
 fn add_child(
     b: &[i32],
     z: Sizes,
-    x: &[usize; 192],
+    nx: &[u64; 512],
     best: &[usize; 64],
     plan: &[u8],
     p: usize,
@@ -61,7 +62,7 @@ fn add_child(
     os: &mut [usize; 64],
     n: usize,
 ) -> usize
-    requires { ⌜ (bookNumber (now b) ≡ 0) × SizesAre (now b) z × IndexOf (now b) (now x) × BestOf (now b) (now best) × Usable (now b) (now plan) p × (p < stateCount (now b)) × (d .action < actionCount (now b) p) × Waiting k (poolOf (now cs) (now ps) (now ss) (now ms) (now os) n) ⌝ }
+    requires { ⌜ (bookNumber (now b) ≡ 0) × SizesAre (now b) z × NextsOf (now b) (now nx) × BestOf (now b) (now best) × Usable (now b) (now plan) p × (p < stateCount (now b)) × (d .action < actionCount (now b) p) × Waiting k (poolOf (now cs) (now ps) (now ss) (now ms) (now os) n) ⌝ }
     ensures { λ r. ⌜ Waiting k (poolOf (now (cs .exit)) (now (ps .exit)) (now (ss .exit)) (now (ms .exit)) (now (os .exit)) r) × (entries (stateCount (now (b .entry))) (poolOf (now (cs .exit)) (now (ps .exit)) (now (ss .exit)) (now (ms .exit)) (now (os .exit)) r) ≡ joined k (childOf (now (b .entry)) (now (plan .entry)) p d) (entries (stateCount (now (b .entry))) (poolOf (now (cs .entry)) (now (ps .entry)) (now (ss .entry)) (now (ms .entry)) (now (os .entry)) n))) ⌝ }
 {
     if pool::beyond(cs, os, n, k, d.cost) {
@@ -69,7 +70,7 @@ fn add_child(
     }
     let s = z.s;
     let mut row = zeros();
-    build::build(b, z, x, best, plan, p, d.action, &mut row[..s]);
+    build::build(b, nx, best, plan, p, d.action, &mut row[..s]);
     pool::insert(cs, ps, ss, ms, os, n, k, s, d.cost, &row[..s], p, d.mask)
 }
 
@@ -78,6 +79,7 @@ fn split_state(
     b: &[i32],
     z: Sizes,
     x: &[usize; 192],
+    nx: &[u64; 512],
     q: &[i64; 512],
     best: &[usize; 64],
     w: &[usize; 64],
@@ -92,7 +94,7 @@ fn split_state(
     os: &mut [usize; 64],
     n: usize,
 ) -> usize
-    requires { ⌜ Ready (now b) z (now x) (now q) (now best) × Parenting (now b) e (now plan) (now w) × (e .split ≤ p) × (p < stateCount (now b)) × Waiting k (poolOf (now cs) (now ps) (now ss) (now ms) (now os) n) ⌝ }
+    requires { ⌜ Ready (now b) z (now x) (now nx) (now q) (now best) × Parenting (now b) e (now plan) (now w) × (e .split ≤ p) × (p < stateCount (now b)) × Waiting k (poolOf (now cs) (now ps) (now ss) (now ms) (now os) n) ⌝ }
     ensures { λ r. ⌜ Waiting k (poolOf (now (cs .exit)) (now (ps .exit)) (now (ss .exit)) (now (ms .exit)) (now (os .exit)) r) × (entries (stateCount (now (b .entry))) (poolOf (now (cs .exit)) (now (ps .exit)) (now (ss .exit)) (now (ms .exit)) (now (os .exit)) r) ≡ admitted (now (b .entry)) k (entryOf e (now (plan .entry))) p (entries (stateCount (now (b .entry))) (poolOf (now (cs .entry)) (now (ps .entry)) (now (ss .entry)) (now (ms .entry)) (now (os .entry)) n))) ⌝ }
 {
     let f = plan[p] as usize;
@@ -111,7 +113,7 @@ fn split_state(
         action: c,
         mask: mask,
     };
-    add_child(b, z, x, best, plan, p, d, k, cs, ps, ss, ms, os, n)
+    add_child(b, z, nx, best, plan, p, d, k, cs, ps, ss, ms, os, n)
 }
 
 // All children of e join those that wait.
@@ -119,6 +121,7 @@ fn split_all(
     b: &[i32],
     z: Sizes,
     x: &[usize; 192],
+    nx: &[u64; 512],
     q: &[i64; 512],
     best: &[usize; 64],
     w: &[usize; 64],
@@ -132,14 +135,32 @@ fn split_all(
     os: &mut [usize; 64],
     n: usize,
 ) -> usize
-    requires { ⌜ Ready (now b) z (now x) (now q) (now best) × Parenting (now b) e (now plan) (now w) × Waiting k (poolOf (now cs) (now ps) (now ss) (now ms) (now os) n) ⌝ }
+    requires { ⌜ Ready (now b) z (now x) (now nx) (now q) (now best) × Parenting (now b) e (now plan) (now w) × Waiting k (poolOf (now cs) (now ps) (now ss) (now ms) (now os) n) ⌝ }
     ensures { λ r. ⌜ Waiting k (poolOf (now (cs .exit)) (now (ps .exit)) (now (ss .exit)) (now (ms .exit)) (now (os .exit)) r) × (entries (stateCount (now (b .entry))) (poolOf (now (cs .exit)) (now (ps .exit)) (now (ss .exit)) (now (ms .exit)) (now (os .exit)) r) ≡ admittedFrom (now (b .entry)) k (entryOf e (now (plan .entry))) 0 (stateCount (now (b .entry))) (entries (stateCount (now (b .entry))) (poolOf (now (cs .entry)) (now (ps .entry)) (now (ss .entry)) (now (ms .entry)) (now (os .entry)) n))) ⌝ }
 {
     let s = z.s;
     let mut m = n;
     let mut p = e.split;
     while p < s {
-        m = split_state(b, z, x, q, best, w, plan, e, p, k, cs, ps, ss, ms, os, m);
+        m = split_state(
+            b,
+            z,
+            x,
+            nx,
+            q,
+            best,
+            w,
+            plan,
+            e,
+            p,
+            k,
+            cs,
+            ps,
+            ss,
+            ms,
+            os,
+            m,
+        );
         p = p + 1;
     }
     m
@@ -150,6 +171,7 @@ fn split_first(
     b: &[i32],
     z: Sizes,
     x: &[usize; 192],
+    nx: &[u64; 512],
     q: &[i64; 512],
     best: &[usize; 64],
     k: usize,
@@ -161,7 +183,7 @@ fn split_first(
     n: usize,
     plan: &[u8],
 ) -> usize
-    requires { ⌜ Ready (now b) z (now x) (now q) (now best) × Waiting k (poolOf (now cs) (now ps) (now ss) (now ms) (now os) n) × (1 ≤ n) × Right (now b) (firstEntry (stateCount (now b)) (poolOf (now cs) (now ps) (now ss) (now ms) (now os) n)) × (now plan ≡ firstEntry (stateCount (now b)) (poolOf (now cs) (now ps) (now ss) (now ms) (now os) n) .plan) ⌝ }
+    requires { ⌜ Ready (now b) z (now x) (now nx) (now q) (now best) × Waiting k (poolOf (now cs) (now ps) (now ss) (now ms) (now os) n) × (1 ≤ n) × Right (now b) (firstEntry (stateCount (now b)) (poolOf (now cs) (now ps) (now ss) (now ms) (now os) n)) × (now plan ≡ firstEntry (stateCount (now b)) (poolOf (now cs) (now ps) (now ss) (now ms) (now os) n) .plan) ⌝ }
     ensures { λ r. ⌜ Waiting k (poolOf (now (cs .exit)) (now (ps .exit)) (now (ss .exit)) (now (ms .exit)) (now (os .exit)) r) × (entries (stateCount (now (b .entry))) (poolOf (now (cs .exit)) (now (ps .exit)) (now (ss .exit)) (now (ms .exit)) (now (os .exit)) r) ≡ splitPool (now (b .entry)) k (entries (stateCount (now (b .entry))) (poolOf (now (cs .entry)) (now (ps .entry)) (now (ss .entry)) (now (ms .entry)) (now (os .entry)) n))) ⌝ }
 {
     let slot = os[0];
@@ -175,7 +197,24 @@ fn split_first(
         split: split,
         mask: mask,
     };
-    split_all(b, z, x, q, best, &w, plan, e, k, cs, ps, ss, ms, os, n - 1)
+    split_all(
+        b,
+        z,
+        x,
+        nx,
+        q,
+        best,
+        &w,
+        plan,
+        e,
+        k,
+        cs,
+        ps,
+        ss,
+        ms,
+        os,
+        n - 1,
+    )
 }
 
 // The first policy that waits is listed as policy j, and its candidate is split.
@@ -183,6 +222,7 @@ fn list_one(
     b: &[i32],
     z: Sizes,
     x: &[usize; 192],
+    nx: &[u64; 512],
     q: &[i64; 512],
     best: &[usize; 64],
     j: usize,
@@ -196,7 +236,7 @@ fn list_one(
     costs: &mut [i64],
     plans: &mut [u8],
 ) -> usize
-    requires { ⌜ Ready (now b) z (now x) (now q) (now best) × Waiting k (poolOf (now cs) (now ps) (now ss) (now ms) (now os) n) × (1 ≤ n) × Right (now b) (firstEntry (stateCount (now b)) (poolOf (now cs) (now ps) (now ss) (now ms) (now os) n)) × (j < k) × (j < length (now costs)) × (j * stateCount (now b) + stateCount (now b) ≤ length (now plans)) ⌝ }
+    requires { ⌜ Ready (now b) z (now x) (now nx) (now q) (now best) × Waiting k (poolOf (now cs) (now ps) (now ss) (now ms) (now os) n) × (1 ≤ n) × Right (now b) (firstEntry (stateCount (now b)) (poolOf (now cs) (now ps) (now ss) (now ms) (now os) n)) × (j < k) × (j < length (now costs)) × (j * stateCount (now b) + stateCount (now b) ≤ length (now plans)) ⌝ }
     ensures { λ r. ⌜ Waiting k (poolOf (now (cs .exit)) (now (ps .exit)) (now (ss .exit)) (now (ms .exit)) (now (os .exit)) r) × (entries (stateCount (now (b .entry))) (poolOf (now (cs .exit)) (now (ps .exit)) (now (ss .exit)) (now (ms .exit)) (now (os .exit)) r) ≡ splitPool (now (b .entry)) k (entries (stateCount (now (b .entry))) (poolOf (now (cs .entry)) (now (ps .entry)) (now (ss .entry)) (now (ms .entry)) (now (os .entry)) n))) × (now (costs .exit) ≡ set (now (costs .entry)) j (firstEntry (stateCount (now (b .entry))) (poolOf (now (cs .entry)) (now (ps .entry)) (now (ss .entry)) (now (ms .entry)) (now (os .entry)) n) .cost)) × (now (plans .exit) ≡ written (now (plans .entry)) (j * stateCount (now (b .entry))) (stateCount (now (b .entry))) (firstEntry (stateCount (now (b .entry))) (poolOf (now (cs .entry)) (now (ps .entry)) (now (ss .entry)) (now (ms .entry)) (now (os .entry)) n) .plan)) ⌝ }
 {
     let s = z.s;
@@ -205,7 +245,22 @@ fn list_one(
     let slot = os[0];
     costs[j] = cs[slot];
     pool::read_row(ps, slot, s, &mut plans[at..to]);
-    split_first(b, z, x, q, best, k, cs, ps, ss, ms, os, n, &plans[at..to])
+    split_first(
+        b,
+        z,
+        x,
+        nx,
+        q,
+        best,
+        k,
+        cs,
+        ps,
+        ss,
+        ms,
+        os,
+        n,
+        &plans[at..to],
+    )
 }
 
 // The first k policies by the search from the candidates that wait.
@@ -213,6 +268,7 @@ fn list_all(
     b: &[i32],
     z: Sizes,
     x: &[usize; 192],
+    nx: &[u64; 512],
     q: &[i64; 512],
     best: &[usize; 64],
     k: usize,
@@ -225,7 +281,7 @@ fn list_all(
     costs: &mut [i64],
     plans: &mut [u8],
 ) -> usize
-    requires { ⌜ Ready (now b) z (now x) (now q) (now best) × Waiting k (poolOf (now cs) (now ps) (now ss) (now ms) (now os) n) × Every (Right (now b)) (entries (stateCount (now b)) (poolOf (now cs) (now ps) (now ss) (now ms) (now os) n)) × (k ≤ length (now costs)) × (k * stateCount (now b) ≤ length (now plans)) ⌝ }
+    requires { ⌜ Ready (now b) z (now x) (now nx) (now q) (now best) × Waiting k (poolOf (now cs) (now ps) (now ss) (now ms) (now os) n) × Every (Right (now b)) (entries (stateCount (now b)) (poolOf (now cs) (now ps) (now ss) (now ms) (now os) n)) × (k ≤ length (now costs)) × (k * stateCount (now b) ≤ length (now plans)) ⌝ }
     ensures { λ r. ⌜ Found (runEntries (now (b .entry)) k k (entries (stateCount (now (b .entry))) (poolOf (now (cs .entry)) (now (ps .entry)) (now (ss .entry)) (now (ms .entry)) (now (os .entry)) n))) r (now (costs .entry)) (now (costs .exit)) (now (plans .entry)) (now (plans .exit)) ⌝ }
 {
     let mut m = n;
@@ -234,7 +290,24 @@ fn list_all(
         if m == 0 {
             return j;
         }
-        m = list_one(b, z, x, q, best, j, k, cs, ps, ss, ms, os, m, costs, plans);
+        m = list_one(
+            b,
+            z,
+            x,
+            nx,
+            q,
+            best,
+            j,
+            k,
+            cs,
+            ps,
+            ss,
+            ms,
+            os,
+            m,
+            costs,
+            plans,
+        );
         j = j + 1;
     }
     j
@@ -245,6 +318,7 @@ fn search(
     b: &[i32],
     z: Sizes,
     x: &[usize; 192],
+    nx: &[u64; 512],
     q: &[i64; 512],
     best: &[usize; 64],
     k: usize,
@@ -252,7 +326,7 @@ fn search(
     costs: &mut [i64],
     plans: &mut [u8],
 ) -> usize
-    requires { ⌜ Ready (now b) z (now x) (now q) (now best) × Waiting k start × Every (Right (now b)) (entries (stateCount (now b)) start) × (k ≤ length (now costs)) × (k * stateCount (now b) ≤ length (now plans)) ⌝ }
+    requires { ⌜ Ready (now b) z (now x) (now nx) (now q) (now best) × Waiting k start × Every (Right (now b)) (entries (stateCount (now b)) start) × (k ≤ length (now costs)) × (k * stateCount (now b) ≤ length (now plans)) ⌝ }
     ensures { λ r. ⌜ Found (runEntries (now (b .entry)) k k (entries (stateCount (now (b .entry))) start)) r (now (costs .entry)) (now (costs .exit)) (now (plans .entry)) (now (plans .exit)) ⌝ }
 {
     let mut cs = start.costs;
@@ -265,6 +339,7 @@ fn search(
         b,
         z,
         x,
+        nx,
         q,
         best,
         k,
@@ -280,22 +355,15 @@ fn search(
 }
 
 // The pool with the first candidate: all policies, of which the first takes the first best actions and costs `cost`.
-fn first_pool(
-    b: &[i32],
-    z: Sizes,
-    x: &[usize; 192],
-    best: &[usize; 64],
-    cost: i64,
-    k: usize,
-) -> Pool
-    requires { ⌜ (bookNumber (now b) ≡ 0) × SizesAre (now b) z × IndexOf (now b) (now x) × BestOf (now b) (now best) × (cost ≡ firstCandidate (now b) .cost) × (1 ≤ k) × (k ≤ 64) ⌝ }
+fn first_pool(b: &[i32], z: Sizes, nx: &[u64; 512], best: &[usize; 64], cost: i64, k: usize) -> Pool
+    requires { ⌜ (bookNumber (now b) ≡ 0) × SizesAre (now b) z × NextsOf (now b) (now nx) × BestOf (now b) (now best) × (cost ≡ firstCandidate (now b) .cost) × (1 ≤ k) × (k ≤ 64) ⌝ }
     ensures { λ r. ⌜ Waiting k r × (entries (stateCount (now (b .entry))) r ≡ firstCandidate (now (b .entry)) ∷ []) ⌝ }
 {
     let s = z.s;
     let first = best[0];
     let none = zeros();
     let mut row = zeros();
-    build::build(b, z, x, best, &none[..s], 0, first, &mut row[..s]);
+    build::build(b, nx, best, &none[..s], 0, first, &mut row[..s]);
     pool::single(s, cost, &row[..s])
 }
 
@@ -306,8 +374,9 @@ pub fn list(b: &[i32], k: usize, costs: &mut [i64], plans: &mut [u8]) -> usize
 {
     let z = book::read_sizes(b);
     let x = index::index(b, z);
+    let nx = nexts::next_sets(b, z, &x);
     let t = table::make_table(b, z, &x);
     let best = build::best_actions(b, z, &t.q);
-    let start = first_pool(b, z, &x, &best, t.v[0], k);
-    search(b, z, &x, &t.q, &best, k, start, costs, plans)
+    let start = first_pool(b, z, &nx, &best, t.v[0], k);
+    search(b, z, &x, &nx, &t.q, &best, k, start, costs, plans)
 }

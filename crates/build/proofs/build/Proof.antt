@@ -6,7 +6,6 @@ use native.Mathlib.Omega.{arith}
 use Rattle.model.specs.Model.{stateCount}
 use Rattle.build.specs.Walk.{chosen}
 use Rattle.build.proofs.Pass.{Pass, begin, finish, pass-more}
-use borrow.Author.Needs.{needs}
 use Rattle.build.proofs.build.Statement.{statement}
 use Rattle.build.proofs.build.Tie as tie
 

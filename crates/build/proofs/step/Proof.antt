@@ -2,16 +2,15 @@
 -- Assumes nothing.
 use mathlib.Core.Path.{_≡_, sym, _∙_, subst}
 use mathlib.Core.Logic.{_⊎_, ⊎-elim}
-use mathlib.Core.Bool.{true, false}
+use mathlib.Core.Bool.{true}
 use Prim.Native.Nat.{ℕ, _+_, _*_, _<_}
 use native.Mathlib.Omega.{arith}
-use borrow.Author.Tests.{not-true, not-false}
 use lib.ListN.{getD}
 use Rattle.model.specs.Model.{Words, actionCount, action}
 use Rattle.model.specs.Path.{byteAt}
 use Rattle.accepted.specs.Facts.{accepted}
 use Rattle.book.proofs.Words.{no, yes′}
-use Rattle.sets.specs.Sets.{holds, both}
+use Rattle.sets.specs.Sets.{holds}
 use Rattle.build.specs.Best.{bestAt}
 use Rattle.build.specs.Walk.{chosen, Stepped}
 use Rattle.build.proofs.Split.{split-same, chosen-cases}

@@ -82,7 +82,7 @@ build-requires : tie.Need-build-requires
 build-requires c κs =
     let s = from (c .before) in
     let h = s .pre in
-    (h .0, h .1, h .2, h .3, h .4, h .5, h .6, row-long (c .before .zeros .result) (c .before .zeros .ensures) s ∙ h .1 .s-is)
+    (h .0, h .2, h .3, h .4, h .5, h .6, row-long (c .before .zeros .result) (c .before .zeros .ensures) s ∙ h .1 .s-is)
 
 -- after the build
 module _ (a : tie.After-build) where

@@ -62,7 +62,6 @@ build-requires c κs =
     let s = c .before .before .before .before .before in
     let h = s .pre in (
       h .0,
-      h .1,
       h .2,
       h .3,
       (λ i l. absurd (omega arith)),

@@ -13,33 +13,47 @@ read-sizes-requires c κs = headed _ (c .before .pre .0)
 index-requires : tie.Need-index-requires
 index-requires c κs = (c .before .before .pre .0, c .read-sizes .ensures)
 
+next-sets-requires : tie.Need-next-sets-requires
+next-sets-requires c κs = (c .before .before .before .before .pre .0, c .before .before .read-sizes .ensures, c .before .index .ensures)
+
 make-table-requires : tie.Need-make-table-requires
-make-table-requires c κs = (c .before .before .before .before .pre .0, c .before .before .read-sizes .ensures, c .before .index .ensures)
+make-table-requires c κs = (c .before .before .before .before .before .before .pre .0, c .before .before .before .before .read-sizes .ensures, c .before .before .before .index .ensures)
 
 best-actions-requires : tie.Need-best-actions-requires
-best-actions-requires c κs = (c .before .before .before .before .before .before .before .pre .0, c .before .before .before .before .before .read-sizes .ensures, table-rows _ _ _ (c .before .before .make-table .ensures))
+best-actions-requires c κs =
+    (c .before .before .before .before .before .before .before .before .before .pre .0, c .before .before .before .before .before .before .before .read-sizes .ensures, table-rows _ _ _ (c .before .before .make-table .ensures))
 
 element-copy-out-first-pool : tie.Need-element-copy-out-first-pool
 element-copy-out-first-pool c = search needs
 
 first-pool-requires : tie.Need-first-pool-requires
 first-pool-requires c κs =
-    let s = c .before .before .before .before .before .before .before .before .before .before .before in (
+    let t = c .before .before .before .before .before .before in
+    let s = t .before .before .before .before .before .before .before in (
       s .pre .0,
-      c .before .before .before .before .before .before .before .before .before .read-sizes .ensures,
-      c .before .before .before .before .before .before .before .before .index .ensures,
+      t .before .before .before .before .before .read-sizes .ensures,
+      t .before .before .next-sets .ensures,
       c .before .before .before .best-actions .ensures,
-      cost-first (s .args .b .now) (s .pre .0) _ _ (c .before .before .before .before .before .before .make-table .ensures),
+      cost-first (s .args .b .now) (s .pre .0) _ _ (t .make-table .ensures),
       s .pre .1,
       s .pre .2,
     )
 
 search-requires : tie.Need-search-requires
 search-requires c κs =
-    let s = c .before .before .before .before .before .before .before .before .before .before .before .before .before .before .before .before .before .before in (
-      record { ok = s .pre .0; sizes = c .before .before .before .before .before .before .before .before .before .before .before .before .before .before .before .before .read-sizes .ensures; index = c .before .before .before .before .before .before .before .before .before .before .before .before .before .before .before .index .ensures; rows = table-rows _ _ _ (c .before .before .before .before .before .before .before .before .before .before .before .before .before .make-table .ensures); firsts = c .before .before .before .before .before .before .before .before .before .before .best-actions .ensures },
-      c .before .before .before .before .before .before .first-pool .ensures .0,
-      first-rights (s .args .b .now) (s .pre .0) _ (c .before .before .before .before .before .before .first-pool .ensures .1),
+    let f = c .before .before .before .before .before .before .before in
+    let t = f .before .before .before .before .before .before .before in
+    let s = t .before .before .before .before .before .before .before in (
+      record {
+        ok = s .pre .0;
+        sizes = t .before .before .before .before .before .read-sizes .ensures;
+        index = t .before .before .before .before .index .ensures;
+        next = t .before .before .next-sets .ensures;
+        rows = table-rows _ _ _ (t .make-table .ensures);
+        firsts = f .before .before .before .before .best-actions .ensures;
+      },
+      f .first-pool .ensures .0,
+      first-rights (s .args .b .now) (s .pre .0) _ (f .first-pool .ensures .1),
       s .pre .3,
       s .pre .4,
     )
@@ -52,8 +66,10 @@ same-length-2 c = search needs
 
 returns : tie.Need-returns
 returns c =
-    let s = c .before .before .before .before .before .before .before .before .before .before .before .before .before .before .before .before .before .before .before .before .before .before in
-    ranked (s .args .b .now) (s .pre .0) (s .args .k) (c .before .before .before .search .result) _ _ _ _ _ (c .before .before .before .before .before .before .before .before .before .before .first-pool .ensures .1) (c .before .before .before .search .ensures)
+    let r = c .before .before .before in
+    let f = r .before .before .before .before .before .before .before .before in
+    let s = f .before .before .before .before .before .before .before .before .before .before .before .before .before .before in
+    ranked (s .args .b .now) (s .pre .0) (s .args .k) (r .search .result) _ _ _ _ _ (f .first-pool .ensures .1) (r .search .ensures)
 
 pub list-spec : {M : Type 1} → statement M
 list-spec =
@@ -61,6 +77,7 @@ list-spec =
     (tie.spec
     read-sizes-requires
     index-requires
+    next-sets-requires
     make-table-requires
     best-actions-requires
     element-copy-out-first-pool

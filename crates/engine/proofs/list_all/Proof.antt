@@ -16,12 +16,12 @@ use Rattle.engine.proofs.list_all.Statement.{statement}
 use Rattle.engine.proofs.list_all.Tie as tie
 
 abbrev Inv-loop : tie.InvT-loop
-Inv-loop b z x q best k cs₀ ps₀ ss₀ ms₀ os₀ n costs₀ plans₀ m₀ j₀ cs ps ss ms os costs plans m j =
+Inv-loop b z x nx q best k cs₀ ps₀ ss₀ ms₀ os₀ n costs₀ plans₀ m₀ j₀ cs ps ss ms os costs plans m j =
     Waiting k (poolOf cs ps ss ms os m) × (j ≤ k)
     × Listing b k (entries (stateCount b) (poolOf cs₀ ps₀ ss₀ ms₀ os₀ n)) costs₀ plans₀ j (entries (stateCount b) (poolOf cs ps ss ms os m)) costs plans
 
 abbrev μ-loop : tie.MeasureT-loop
-μ-loop b z x q best k cs₀ ps₀ ss₀ ms₀ os₀ n costs₀ plans₀ m₀ j₀ cs ps ss ms os costs plans m j = k - j
+μ-loop b z x nx q best k cs₀ ps₀ ss₀ ms₀ os₀ n costs₀ plans₀ m₀ j₀ cs ps ss ms os costs plans m j = k - j
 
 abbrev ws : tie.Start Inv-loop μ-loop → Words
 ws s = s .args .b .now

@@ -70,8 +70,8 @@ mul-costs c = omega (arith, low (c .before .before))
 element-copy-out-costs : tie.Need-element-copy-out-costs
 element-copy-out-costs c = low (c .before .before)
 
-mul-t26 : tie.Need-mul-t26
-mul-t26 c = search needs
+mul-t27 : tie.Need-mul-t27
+mul-t27 c = search needs
 
 slice-set-from-costs : tie.Need-slice-set-from-costs
 slice-set-from-costs c = c .before .before .before .pre .5
@@ -148,7 +148,7 @@ returns c =
       c .split-first .ensures .0,
       c .split-first .ensures .1,
       ap (set (s .args .costs .now) (s .args .j))
-          (cost-read (ws s) (s .args .z) (s .args .x .now) (s .args .q .now) (s .args .best .now) (s .pre .0) (first s) (s .pre .3) refl),
+          (cost-read (ws s) (s .args .z) (s .args .x .now) (s .args .nx .now) (s .args .q .now) (s .args .best .now) (s .pre .0) (first s) (s .pre .3) refl),
       rows-are s (r .read-row .ensures),
     )
 
@@ -161,7 +161,7 @@ list-one-spec =
     element-copy-out-slot
     mul-costs
     element-copy-out-costs
-    mul-t26
+    mul-t27
     slice-set-from-costs
     sub-read-row
     part-read-row-start

@@ -14,13 +14,13 @@ use Rattle.engine.proofs.split_all.Statement.{statement}
 use Rattle.engine.proofs.split_all.Tie as tie
 
 abbrev Inv-loop : tie.InvT-loop
-Inv-loop b z x q best w plan e k cs₀ ps₀ ss₀ ms₀ os₀ n s m₀ p₀ cs ps ss ms os m p =
+Inv-loop b z x nx q best w plan e k cs₀ ps₀ ss₀ ms₀ os₀ n s m₀ p₀ cs ps ss ms os m p =
     Waiting k (poolOf cs ps ss ms os m) × (e .split ≤ p) × (s ≡ stateCount b)
     × (admittedFrom b k (entryOf e plan) p (s - p) (entries (stateCount b) (poolOf cs ps ss ms os m))
     ≡ admittedFrom b k (entryOf e plan) 0 s (entries (stateCount b) (poolOf cs₀ ps₀ ss₀ ms₀ os₀ n)))
 
 abbrev μ-loop : tie.MeasureT-loop
-μ-loop b z x q best w plan e k cs₀ ps₀ ss₀ ms₀ os₀ n s m₀ p₀ cs ps ss ms os m p = s - p
+μ-loop b z x nx q best w plan e k cs₀ ps₀ ss₀ ms₀ os₀ n s m₀ p₀ cs ps ss ms os m p = s - p
 
 -- what waits at the start, and at the head of the loop
 abbrev start : tie.Start Inv-loop μ-loop → List Entry

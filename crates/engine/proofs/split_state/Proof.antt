@@ -33,7 +33,7 @@ waiting s =
 shared-slice-read-f : tie.Need-shared-slice-read-f
 shared-slice-read-f c =
     let s = c .before .before in
-    in-plan (ws s) (s .args .z) (s .args .x .now) (s .args .q .now) (s .args .best .now) (s .pre .0) (en s) (s .pre .1 .right) (s .args .p) (s .pre .3)
+    in-plan (ws s) (s .args .z) (s .args .x .now) (s .args .nx .now) (s .args .q .now) (s .args .best .now) (s .pre .0) (en s) (s .pre .1 .right) (s .args .p) (s .pre .3)
 
 cast-f : tie.Need-cast-f
 cast-f c = omega (arith, c .shared-slice-known2 .given (c .before .before .args .p) .fits)
@@ -41,12 +41,12 @@ cast-f c = omega (arith, c .shared-slice-known2 .given (c .before .before .args 
 returns : tie.Need-returns
 returns c =
     let s = c .before .before .before in
-    (s .pre .4, unreached (ws s) (s .args .z) (s .args .x .now) (s .args .q .now) (s .args .best .now) (s .pre .0) (en s) (s .pre .1 .right) (s .args .p) (s .pre .2) (s .pre .3) (s .args .k) (waiting s) (c .if1 .taken))
+    (s .pre .4, unreached (ws s) (s .args .z) (s .args .x .now) (s .args .nx .now) (s .args .q .now) (s .args .best .now) (s .pre .0) (en s) (s .pre .1 .right) (s .args .p) (s .pre .2) (s .pre .3) (s .args .k) (waiting s) (c .if1 .taken))
 
 mask-at-requires : tie.Need-mask-at-requires
 mask-at-requires c κs =
     let s = c .before .before .before in
-    small (ws s) (s .args .z) (s .args .x .now) (s .args .q .now) (s .args .best .now) (s .pre .0) (en s) (s .pre .1 .right) (s .args .p) (s .pre .2) (s .pre .3) (s .args .k) (waiting s) (c .if1 .left)
+    small (ws s) (s .args .z) (s .args .x .now) (s .args .nx .now) (s .args .q .now) (s .args .best .now) (s .pre .0) (en s) (s .pre .1 .right) (s .args .p) (s .pre .2) (s .pre .3) (s .args .k) (waiting s) (c .if1 .left)
 
 count-requires : tie.Need-count-requires
 count-requires c κs =
@@ -56,12 +56,12 @@ count-requires c κs =
 best-action-requires : tie.Need-best-action-requires
 best-action-requires c κs =
     let s = c .before .before .before .before .before in
-    (below-64 (ws s) (s .args .z) (s .args .x .now) (s .args .q .now) (s .args .best .now) (s .pre .0) (en s) (s .pre .1 .right) (s .args .p) (s .pre .2) (s .pre .3) (s .args .k) (waiting s), omega (arith, c .count .ensures, few-actions (ws s) (s .args .z) (s .args .x .now) (s .args .q .now) (s .args .best .now) (s .pre .0) (en s) (s .pre .1 .right) (s .args .p) (s .pre .2) (s .pre .3) (s .args .k) (waiting s)))
+    (below-64 (ws s) (s .args .z) (s .args .x .now) (s .args .nx .now) (s .args .q .now) (s .args .best .now) (s .pre .0) (en s) (s .pre .1 .right) (s .args .p) (s .pre .2) (s .pre .3) (s .args .k) (waiting s), omega (arith, c .count .ensures, few-actions (ws s) (s .args .z) (s .args .x .now) (s .args .nx .now) (s .args .q .now) (s .args .best .now) (s .pre .0) (en s) (s .pre .1 .right) (s .args .p) (s .pre .2) (s .pre .3) (s .args .k) (waiting s)))
 
 returns-2 : tie.Need-returns-2
 returns-2 c =
     let s = c .before .before .before .before .before .before .before in
-    (s .pre .4, none (ws s) (s .args .z) (s .args .x .now) (s .args .q .now) (s .args .best .now) (s .pre .0) (en s) (s .pre .1 .right) (s .args .p) (s .pre .2) (s .pre .3) (s .args .k) (waiting s) (c .before .before .before .before .if1 .left) _ _ _ (c .before .before .before .mask-at .ensures) (c .before .before .count .ensures) (c .before .best-action .ensures) (c .if2 .taken))
+    (s .pre .4, none (ws s) (s .args .z) (s .args .x .now) (s .args .nx .now) (s .args .q .now) (s .args .best .now) (s .pre .0) (en s) (s .pre .1 .right) (s .args .p) (s .pre .2) (s .pre .3) (s .args .k) (waiting s) (c .before .before .before .before .if1 .left) _ _ _ (c .before .before .before .mask-at .ensures) (c .before .before .count .ensures) (c .before .best-action .ensures) (c .if2 .taken))
 
 -- where an action is left
 module _ (c : tie.Else2) where
@@ -70,16 +70,16 @@ module _ (c : tie.Else2) where
 
   child : ChildAt (ws s) (en s) (s .args .p) (c .before .best-action .result) (c .before .before .before .mask-at .result)
   child =
-      child-at (ws s) (s .args .z) (s .args .x .now) (s .args .q .now) (s .args .best .now) (s .pre .0) (en s) (s .pre .1 .right) (s .args .p) (s .pre .2) (s .pre .3) (s .args .k) (waiting s) (c .before .before .before .before .if1 .left) _ _ _ (c .before .before .before .mask-at .ensures) (c .before .before .count .ensures) (c .before .best-action .ensures) (c .if2 .left)
+      child-at (ws s) (s .args .z) (s .args .x .now) (s .args .nx .now) (s .args .q .now) (s .args .best .now) (s .pre .0) (en s) (s .pre .1 .right) (s .args .p) (s .pre .2) (s .pre .3) (s .args .k) (waiting s) (c .before .before .before .before .if1 .left) _ _ _ (c .before .before .before .mask-at .ensures) (c .before .before .count .ensures) (c .before .best-action .ensures) (c .if2 .left)
 
   known : Facts (ws s) (s .args .q .now) (en s) (s .args .w .now) (s .args .p) (c .before .best-action .result) (getD (s .args .plan .now) (s .args .p) 0)
   known =
-      facts (ws s) (s .args .z) (s .args .x .now) (s .args .q .now) (s .args .best .now) (s .pre .0) (en s) (s .pre .1 .right) (s .args .w .now)
+      facts (ws s) (s .args .z) (s .args .x .now) (s .args .nx .now) (s .args .q .now) (s .args .best .now) (s .pre .0) (en s) (s .pre .1 .right) (s .args .w .now)
       (s .pre .1 .weights) (s .args .p) (c .before .best-action .result) (c .before .before .before .mask-at .result) child
 
   joins : joined (s .args .k) (childEntry (ws s) (en s) (s .args .p)) (waiting s) ≡ admitted (ws s) (s .args .k) (en s) (s .args .p) (waiting s)
   joins =
-      one (ws s) (s .args .z) (s .args .x .now) (s .args .q .now) (s .args .best .now) (s .pre .0) (en s) (s .pre .1 .right) (s .args .p) (s .pre .2) (s .pre .3) (s .args .k) (waiting s) (c .before .before .before .before .if1 .left) _ _ _ (c .before .before .before .mask-at .ensures) (c .before .before .count .ensures) (c .before .best-action .ensures) (c .if2 .left)
+      one (ws s) (s .args .z) (s .args .x .now) (s .args .nx .now) (s .args .q .now) (s .args .best .now) (s .pre .0) (en s) (s .pre .1 .right) (s .args .p) (s .pre .2) (s .pre .3) (s .args .k) (waiting s) (c .before .before .before .before .if1 .left) _ _ _ (c .before .before .before .mask-at .ensures) (c .before .before .count .ensures) (c .before .best-action .ensures) (c .if2 .left)
 
   -- the cost that is passed on is the child's
   money : (r : ℤ)
@@ -102,7 +102,7 @@ add-child-requires c κs =
     let h = s d .pre in (
       h .0 .ok,
       h .0 .sizes,
-      h .0 .index,
+      h .0 .next,
       h .0 .firsts,
       usable (ws (s d)) (h .0 .ok) (en (s d)) (h .1 .right) (s d .args .p) (h .3),
       h .3,
