@@ -24,7 +24,7 @@ module _ (ws : Words) (ok : bookNumber ws ≡ 0) (p : ℕ) (s : p < stateCount w
   first-inside c h = omega (arith, lines-inside c h)
 
 -- a number from lo on is not below 0
-from-up : (lo : ℕ) (hi z : ℤ) → inside (pos lo) hi z ≡ true → NotBelow0 z
+pub from-up : (lo : ℕ) (hi z : ℤ) → inside (pos lo) hi z ≡ true → NotBelow0 z
 from-up lo hi (pos n) e = refl
 from-up lo hi (negsuc n) e = let z : _≡_ {A = ℕ} 0 1 = cc in absurd (omega arith)
 
