@@ -1,20 +1,15 @@
 -- The words of an action are its cost and its transitions, and its cost with what is expected after it stays within the bound of question 13.
 -- Assumes nothing.
 use mathlib.Core.Path.{_≡_, refl, sym, ap, ap₂, _∙_, subst}
-use mathlib.Core.Bool.{true}
-use mathlib.Core.Logic.{_⊎_, inl, inr}
 use mathlib.Core.List.{List, [], _∷_, map}
 use Prim.Native.Nat.{ℕ, zero, suc, _+_, _*_, _-_, _^_, _≤_, _<_}
 use native.Mathlib.Nat.{zero-add, add-zero, add-suc, suc-add, pow-suc, le-trans, mul-le-mul-left, mul-le-mul-right}
 use native.Mathlib.Omega.{arith}
-use borrow.Author.Tests.{ltb-true}
-use lib.IntN.{ℤ, pos, negsuc, natAbs}
-use lib.Signed.{ltZ}
+use lib.IntN.{ℤ, natAbs}
 use Rattle.model.specs.Lists.{upFrom}
-use Rattle.model.specs.Model.{Words, word, scale, lineCount, firstState, stateCount, stage, togo, actionCount, actionLine, left, right, branches}
+use Rattle.model.specs.Model.{Words, word, scale, lineCount, firstState, stateCount, stage, togo, left, right, branches}
 use Rattle.model.specs.Model.{Transition, Action, transitionAt, readAction, action}
-use Rattle.model.specs.Questions.{nextBefore, nextsAllowed, weightsAllowed, largestCost, bookNumber}
-use Rattle.questions.specs.Ranges.{and-true, all-at}
+use Rattle.model.specs.Questions.{largestCost, bookNumber}
 use Rattle.laws.specs.Members.{Every, AtNexts, every-both}
 use Rattle.laws.specs.Paths.{weightsOf}
 use Rattle.accepted.specs.Facts.{accepted}
@@ -23,8 +18,8 @@ use Rattle.accepted.specs.Demands.{most-fits}
 use Rattle.book.specs.Read.{SizesAre}
 use Rattle.book.specs.declared.Sizes.{Sizes}
 use Rattle.book.proofs.Columns.{left-is, right-is}
-use Rattle.index.specs.Index.{NotBelow0}
-use Rattle.index.proofs.Lines.{lines-inside, from-up, first-up}
+use Rattle.index.proofs.Lines.{lines-inside}
+use Rattle.index.proofs.Signs.{next-up, weight-up}
 use Rattle.costs.specs.Terms.{term, terms, absExpected, Readable, valueAt, ActionAt, most, Bounded}
 
 -- transitions read by their words are those of the model
@@ -98,9 +93,6 @@ module _ (ws : Words) (ok : bookNumber ws ≡ 0) (z : Sizes) (are : SizesAre ws 
   pub inside-lines : j + 1 + branches ws j ≤ lineCount ws
   inside-lines = rw (at .line-is) (lines-inside ws ok p (at .state) c (at .action))
 
-  pub line-up : (k : ℕ) → k ≡ 4 + z .h + z .s + j → NotBelow0 (word ws k)
-  line-up k e = rw (left-is ws z are j k e, at .line-is) (first-up ws ok p (at .state) c (at .action))
-
   pub cost-is : (k : ℕ) → k ≡ 4 + z .h + z .s + j + z .l → word ws k ≡ action ws p c .cost
   unfolding readAction
   cost-is k e =
@@ -123,36 +115,6 @@ terms-at P ws at l base i (suc m) h zero b = subst (λ (n : ℕ). P (term ws at 
 terms-at P ws at l base i (suc m) h (suc k) b =
     subst (λ (n : ℕ). P (term ws at l base n)) (suc-add i k ∙ sym (add-suc i k)) (terms-at P ws at l base (suc i) m (h .1) k (omega arith))
 
--- ---- no word of an action's lines is below 0
-
--- what is above -1, or above a number that is not below 0
-above : (y x : ℤ) → (y ≡ negsuc 0) ⊎ NotBelow0 y → ltZ y x ≡ true → NotBelow0 x
-above y (pos n) h e = refl
-above y (negsuc n) h e = absurd (go y h e)
-  where
-    go : (y : ℤ) → (y ≡ negsuc 0) ⊎ NotBelow0 y → ltZ y (negsuc n) ≡ true → ⊥
-    go (pos m) h e = let z : _≡_ {A = ℕ} 0 1 = cc in omega arith
-    go (negsuc m) (inl q) e = let k : m ≡ 0 = cc in omega (arith, ltb-true n m e)
-    go (negsuc m) (inr q) e = let z : _≡_ {A = ℕ} 0 1 = cc in omega arith
-
-module _ (ws : Words) (ok : bookNumber ws ≡ 0) (p c : ℕ) (hp : p < stateCount ws) (hc : c < actionCount ws p) where
-  abbrev line : ℕ
-  line = actionLine ws p c
-
-  nexts-rise : (i : ℕ) → i < branches ws line → ltZ (nextBefore ws line i) (left ws (line + 1 + i)) ≡ true
-  unfolding nextsAllowed
-  nexts-rise i h = and-true _ _ (all-at (branches ws line) _ (accepted ws ok .nexts-allowed p c hp hc) i h) .0
-
-  nexts-up : (i : ℕ) → i < branches ws line → NotBelow0 (left ws (line + 1 + i))
-  nexts-up zero h = above (negsuc 0) _ (inl refl) (nexts-rise zero h)
-  nexts-up (suc i) h = above (left ws (line + 1 + i)) _ (inr (nexts-up i (omega arith))) (nexts-rise (suc i) h)
-
-  weights-up : (i : ℕ) → i < branches ws line → NotBelow0 (right ws (line + 1 + i))
-  unfolding weightsAllowed
-  weights-up i h =
-      from-up 1 (pos (scale ws)) _
-      (all-at (branches ws line) _ (and-true _ _ (accepted ws ok .weights-allowed p c hp hc) .0) i h)
-
 module _ (ws : Words) (ok : bookNumber ws ≡ 0) (z : Sizes) (are : SizesAre ws z) (p c j : ℕ) (at : ActionAt ws p c j) where
   pub readable : (k r base : ℕ) → k ≡ 4 + z .h + z .s + j → r ≡ branches ws j → base ≡ firstState ws (stage ws p + 1)
       → Readable ws (k + 1) (z .l) r base
@@ -162,15 +124,9 @@ module _ (ws : Words) (ok : bookNumber ws ≡ 0) (z : Sizes) (are : SizesAre ws 
         short = omega (arith, s .exact, s .h-high, s .s-high, s .l-high);
         inside = omega (arith, s .exact, inside-lines ws ok z are p c j at, are .h-is, are .s-is, are .l-is);
         next = λ i h. below i (terms-at (λ t. t .next < stateCount ws) ws (k + 1) (z .l) base 0 r (rw (transitions-are ws ok z are p c j at k r base e f g) (shape ws ok .inside p c)) i h);
-        next-up = λ i h. up i (nexts-up ws ok p c (at .state) (at .action) i (omega (arith, h, f, ap (branches ws) (at .line-is))));
-        weight-up = λ i h. wup i (weights-up ws ok p c (at .state) (at .action) i (omega (arith, h, f, ap (branches ws) (at .line-is))));
+        next-up = λ i h. next-up ws ok p (at .state) c (at .action) z are j (at .line-is) i _ (omega (arith, h, f)) (omega (arith, e));
+        weight-up = λ i h. weight-up ws ok p (at .state) c (at .action) z are j (at .line-is) i _ (omega (arith, h, f)) (omega (arith, e));
       }
     where
-      up : (i : ℕ) → NotBelow0 (left ws (actionLine ws p c + 1 + i)) → NotBelow0 (word ws (k + 1 + i))
-      up i q = rw (left-is ws z are (actionLine ws p c + 1 + i) (k + 1 + i) (omega (arith, e, at .line-is))) q
-
-      wup : (i : ℕ) → NotBelow0 (right ws (actionLine ws p c + 1 + i)) → NotBelow0 (word ws (k + 1 + z .l + i))
-      wup i q = rw (right-is ws z are (actionLine ws p c + 1 + i) (k + 1 + z .l + i) (omega (arith, e, at .line-is))) q
-
       below : (i : ℕ) → base + natAbs (word ws (k + 1 + (0 + i))) < stateCount ws → base + natAbs (word ws (k + 1 + i)) < 64
       below i h = omega (arith, accepted ws ok .sizes .s-high, rw zero-add at h)

@@ -11,9 +11,10 @@ use Rattle.model.specs.Recursion.{expected}
 use Rattle.power.proofs.Range.{power-high}
 use Rattle.accepted.specs.Facts.{accepted}
 use Rattle.book.proofs.Columns.{branches-are}
+use Rattle.index.proofs.Signs.{line-up}
 use Rattle.costs.specs.Terms.{terms, absExpected, valueAt}
 use Rattle.costs.proofs.Sums.{read64, start-small, start-value, start-rest}
-use Rattle.costs.proofs.Actions.{within-most, most-small, inside-lines, line-up, cost-is, transitions-are, readable}
+use Rattle.costs.proofs.Actions.{within-most, most-small, inside-lines, cost-is, transitions-are, readable}
 use Rattle.costs.proofs.action_cost.Statement.{statement}
 use Rattle.costs.proofs.action_cost.Tie as tie
 
@@ -94,7 +95,8 @@ plain-at-requires : tie.Need-plain-at-requires
 plain-at-requires c κs =
     let s = c .before .before in
     let r = room s in
-    (omega arith, line-up (ws s) (s .pre .0) (s .args .z) (s .pre .1) (s .args .p) (s .args .c) (s .args .j) (s .pre .3) _ refl)
+    let a = s .pre .3 in
+    (omega arith, line-up (ws s) (s .pre .0) (s .args .p) (a .state) (s .args .c) (a .action) (s .args .z) (s .pre .1) (s .args .j) (a .line-is) _ refl)
 
 add-base : tie.Need-add-base
 add-base c = let r = room (c .before .before .before) in omega arith
