@@ -19,6 +19,7 @@ use Rattle.book.specs.Read.{SizesAre}
 use Rattle.book.specs.declared.Sizes.{Sizes}
 use Rattle.book.proofs.Columns.{left-is, right-is}
 use Rattle.index.proofs.Lines.{lines-inside}
+use Rattle.index.proofs.Signs.{next-up, weight-up}
 use Rattle.costs.specs.Terms.{term, terms, absExpected, Readable, valueAt, ActionAt, most, Bounded}
 
 -- transitions read by their words are those of the model
@@ -123,6 +124,8 @@ module _ (ws : Words) (ok : bookNumber ws ≡ 0) (z : Sizes) (are : SizesAre ws 
         short = omega (arith, s .exact, s .h-high, s .s-high, s .l-high);
         inside = omega (arith, s .exact, inside-lines ws ok z are p c j at, are .h-is, are .s-is, are .l-is);
         next = λ i h. below i (terms-at (λ t. t .next < stateCount ws) ws (k + 1) (z .l) base 0 r (rw (transitions-are ws ok z are p c j at k r base e f g) (shape ws ok .inside p c)) i h);
+        next-up = λ i h. next-up ws ok p (at .state) c (at .action) z are j (at .line-is) i _ (omega (arith, h, f)) (omega (arith, e));
+        weight-up = λ i h. weight-up ws ok p (at .state) c (at .action) z are j (at .line-is) i _ (omega (arith, h, f)) (omega (arith, e));
       }
     where
       below : (i : ℕ) → base + natAbs (word ws (k + 1 + (0 + i))) < stateCount ws → base + natAbs (word ws (k + 1 + i)) < 64

@@ -7,6 +7,7 @@ use lib.IntN.{ℤ, pos, natAbs}
 use lib.ListN.{length, getD}
 use Rattle.model.specs.Model.{Words, word, scale, stateCount, togo, actionCount, actionLine, Transition}
 use Rattle.model.specs.Questions.{largestCost}
+use Rattle.index.specs.Index.{NotBelow0}
 
 -- transition i of those whose next states, counted from `base`, begin at word `at`, and their weights l words later
 abbrev pub term : Words → ℕ → ℕ → ℕ → ℕ → Transition
@@ -22,11 +23,13 @@ abbrev pub absExpected : (ℕ → ℤ) → List Transition → ℕ
 absExpected v [] = 0
 absExpected v (t ∷ ts) = t .weight * natAbs (v (t .next)) + absExpected v ts
 
--- the words are there, and every next state is below 64
+-- the words are there and not below 0, and every next state is below 64
 pub record Readable (ws : Words) (at l r base : ℕ) : Type 0 where
   pub short : length ws ≤ 4172
   pub inside : at + l + r ≤ length ws
   pub next : (i : ℕ) → i < r → base + natAbs (word ws (at + i)) < 64
+  pub next-up : (i : ℕ) → i < r → NotBelow0 (word ws (at + i))
+  pub weight-up : (i : ℕ) → i < r → NotBelow0 (word ws (at + l + i))
 
 -- the cost-to-go of state q, of those that an array holds
 abbrev pub valueAt : List ℤ → ℕ → ℤ

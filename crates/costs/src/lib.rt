@@ -35,8 +35,8 @@ fn expect(b: &[i32], at: usize, l: usize, r: usize, base: usize, v: &[i64; 64], 
     let mut acc = start;
     let mut i: usize = 0;
     while i < r {
-        let next = base + book::size_at(b, at + i);
-        let w = book::size_at(b, at + l + i);
+        let next = base + index::plain_at(b, at + i);
+        let w = index::plain_at(b, at + l + i);
         acc = mul_add(acc, w, v[next]);
         i = i + 1;
     }
@@ -69,7 +69,7 @@ pub fn action_cost(
 {
     let at = 4 + z.h + z.s + j;
     let l = z.l;
-    let r = book::size_at(b, at);
+    let r = index::plain_at(b, at);
     let base = x[64 + p];
     let start = mul_add(0, unit, wide_at(b, at + l));
     expect(b, at + 1, l, r, base, v, start)

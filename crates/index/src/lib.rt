@@ -9,15 +9,15 @@ ghost use Rattle.model.specs.Questions.{bookNumber};
 ghost use Rattle.book.specs.Read.{SizeIs, SizesAre};
 ghost use Rattle.index.specs.Index.{NotBelow0, IndexTo, IndexOf};
 
-// Word i, which is not below 0.
-fn plain_at(b: &[i32], i: usize) -> usize
+// Word i, which is not below 0. Checking has looked at the signs, so no pass after it has to.
+pub fn plain_at(b: &[i32], i: usize) -> usize
     requires { ⌜ (i < length (now b)) × NotBelow0 (word (now b) i) ⌝ }
     ensures { λ r. ⌜ SizeIs (word (now (b .entry)) i) r ⌝ }
 {
     b[i] as usize
 }
 
-// The line after those of the action whose first line is line j. Each line waits for the one before it, so its sign is not looked at again.
+// The line after those of the action whose first line is line j.
 pub fn line_after(b: &[i32], z: Sizes, j: usize) -> usize
     requires { ⌜ (bookNumber (now b) ≡ 0) × SizesAre (now b) z × (j < lineCount (now b)) × NotBelow0 (left (now b) j) ⌝ }
     ensures { λ r. ⌜ r ≡ lineAfter (now (b .entry)) j ⌝ }

@@ -38,12 +38,12 @@ pub fn mark_nexts(b: &[i32], z: Sizes, x: &[usize; 192], p: usize, c: usize, mar
     ensures { λ _. ⌜ now (marks .exit) ≡ mark (nexts (action (now (b .entry)) p c .transitions)) (now (marks .entry)) ⌝ }
 {
     let at = 4 + z.h + z.s + index::action_line(b, z, p, x[p], c);
-    let r = book::size_at(b, at);
+    let r = index::plain_at(b, at);
     let base = x[64 + p];
     let mut i: usize = 0;
     while i < r {
         i = i + 1;
-        let q = base + book::size_at(b, at + i);
+        let q = base + index::plain_at(b, at + i);
         marks[q] = true;
     }
 }

@@ -35,14 +35,14 @@ fn spread_action(
     ensures { λ _. ⌜ Holds (now (w .exit)) (spread y (action (now (b .entry)) p c .transitions) (weightAt (now (w .entry)))) ⌝ }
 {
     let line = 4 + z.h + z.s + index::action_line(b, z, p, x[p], c);
-    let r = book::size_at(b, line);
+    let r = index::plain_at(b, line);
     let at = line + 1;
     let l = z.l;
     let base = x[64 + p];
     let mut i: usize = 0;
     while i < r {
-        let q = base + book::size_at(b, at + i);
-        let weight = book::size_at(b, at + l + i);
+        let q = base + index::plain_at(b, at + i);
+        let weight = index::plain_at(b, at + l + i);
         w[q] = w[q] + y * weight;
         i = i + 1;
     }

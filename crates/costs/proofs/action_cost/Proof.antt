@@ -11,6 +11,7 @@ use Rattle.model.specs.Recursion.{expected}
 use Rattle.power.proofs.Range.{power-high}
 use Rattle.accepted.specs.Facts.{accepted}
 use Rattle.book.proofs.Columns.{branches-are}
+use Rattle.index.proofs.Signs.{line-up}
 use Rattle.costs.specs.Terms.{terms, absExpected, valueAt}
 use Rattle.costs.proofs.Sums.{read64, start-small, start-value, start-rest}
 use Rattle.costs.proofs.Actions.{within-most, most-small, inside-lines, cost-is, transitions-are, readable}
@@ -54,10 +55,10 @@ module _ (c : tie.After-base) where
   unit : start .args .unit ≡ scale (ws start) ^ togo (ws start) (start .args .p)
   unit = start .pre .4
 
-  r-is : c .before .size-at .result ≡ branches (ws start) (start .args .j)
+  r-is : c .before .plain-at .result ≡ branches (ws start) (start .args .j)
   r-is =
-      branches-are (ws start) (start .args .z) (start .pre .1) (start .args .j) (c .before .size-at .result)
-      (c .before .size-at .ensures .is)
+      branches-are (ws start) (start .args .z) (start .pre .1) (start .args .j) (c .before .plain-at .result)
+      (c .before .plain-at .ensures .is)
 
 cost : (c : tie.After-wide-at) →
     let s = start (c .before) in
@@ -75,7 +76,7 @@ module _ (c : tie.After-base) where
 
   terms-is : let s = start c in
       terms (ws s) (4 + s .args .z .h + s .args .z .s + s .args .j + 1) (s .args .z .l) (getD (s .args .x .now) (64 + s .args .p) 0) 0
-      (c .before .size-at .result)
+      (c .before .plain-at .result)
       ≡ action (ws s) (s .args .p) (s .args .c) .transitions
   terms-is =
       let s = start c in
@@ -90,8 +91,12 @@ add-at-2 c = let r = room (c .before .before) in omega arith
 add-at-3 : tie.Need-add-at-3
 add-at-3 c = let r = room (c .before .before) in omega arith
 
-size-at-requires : tie.Need-size-at-requires
-size-at-requires c κs = let r = room (c .before .before) in omega arith
+plain-at-requires : tie.Need-plain-at-requires
+plain-at-requires c κs =
+    let s = c .before .before in
+    let r = room s in
+    let a = s .pre .3 in
+    (omega arith, line-up (ws s) (s .pre .0) (s .args .p) (a .state) (s .args .c) (a .action) (s .args .z) (s .pre .1) (s .args .j) (a .line-is) _ refl)
 
 add-base : tie.Need-add-base
 add-base c = let r = room (c .before .before .before) in omega arith
@@ -153,7 +158,7 @@ action-cost-spec =
     add-at
     add-at-2
     add-at-3
-    size-at-requires
+    plain-at-requires
     add-base
     mul-base
     element-copy-out-base

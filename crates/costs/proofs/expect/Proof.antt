@@ -31,28 +31,32 @@ loop-holds c =
     let e : c .args .r - 0 ≡ c .args .r = omega arith in
     (omega arith, rw (e, toZ-ofZ (c .fits .start)) (c .pre .1), rw e)
 
-add-size-at : tie.Need-add-size-at Inv-loop μ-loop
-add-size-at c = search needs
+add-plain-at : tie.Need-add-plain-at Inv-loop μ-loop
+add-plain-at c = search needs
 
-size-at-requires : tie.Need-size-at-requires Inv-loop μ-loop
-size-at-requires c κs = omega (arith, c .before .before .pre .0 .inside)
+plain-at-requires : tie.Need-plain-at-requires Inv-loop μ-loop
+plain-at-requires c κs =
+    let r = c .before .before .pre .0 in
+    (omega (arith, r .inside), r .next-up (c .before .loop .i) (omega arith))
 
 add-next : tie.Need-add-next Inv-loop μ-loop
-add-next c = omega (arith, c .size-at .ensures .is, c .before .before .before .pre .0 .next (c .before .before .loop .i) (omega arith))
+add-next c = omega (arith, c .plain-at .ensures .is, c .before .before .before .pre .0 .next (c .before .before .loop .i) (omega arith))
 
-add-size-at-2 : tie.Need-add-size-at-2 Inv-loop μ-loop
-add-size-at-2 c = search needs
+add-plain-at-2 : tie.Need-add-plain-at-2 Inv-loop μ-loop
+add-plain-at-2 c = search needs
 
-add-size-at-3 : tie.Need-add-size-at-3 Inv-loop μ-loop
-add-size-at-3 c = search needs
+add-plain-at-3 : tie.Need-add-plain-at-3 Inv-loop μ-loop
+add-plain-at-3 c = search needs
 
-size-at-requires-2 : tie.Need-size-at-requires-2 Inv-loop μ-loop
-size-at-requires-2 c κs = omega (arith, c .before .before .before .pre .0 .inside)
+plain-at-requires-2 : tie.Need-plain-at-requires-2 Inv-loop μ-loop
+plain-at-requires-2 c κs =
+    let r = c .before .before .before .pre .0 in
+    (omega (arith, r .inside), r .weight-up (c .before .before .loop .i) (omega arith))
 
-below : (c : tie.After-size-at2 Inv-loop μ-loop) → c .before .before .before .before .args .base + c .before .size-at .result < 64
+below : (c : tie.After-plain-at2 Inv-loop μ-loop) → c .before .before .before .before .args .base + c .before .plain-at .result < 64
 below c =
     let l = c .before .before .before in
-    omega (arith, c .before .size-at .ensures .is, l .before .pre .0 .next (l .loop .i) (omega arith))
+    omega (arith, c .before .plain-at .ensures .is, l .before .pre .0 .next (l .loop .i) (omega arith))
 
 abbrev transition : ℕ → ℕ → Transition
 transition q w = record { next = q; weight = w }
@@ -69,19 +73,19 @@ module _ (c : tie.After-mul-add-arg Inv-loop μ-loop) where
   v = valueAt (s .args .v .now)
 
   abbrev w : ℕ
-  w = c .before .size-at2 .result
+  w = c .before .plain-at2 .result
 
   abbrev value : ℤ
-  value = v (s .args .base + c .before .before .size-at .result)
+  value = v (s .args .base + c .before .before .plain-at .result)
 
   abbrev after : List Transition
   after = terms (s .args .b .now) (s .args .at) (s .args .l) (s .args .base) (l .loop .i + 1) (s .args .r - (l .loop .i + 1))
 
   split : terms (s .args .b .now) (s .args .at) (s .args .l) (s .args .base) (l .loop .i) (s .args .r - l .loop .i)
-      ≡ transition (s .args .base + c .before .before .size-at .result) w ∷ after
+      ≡ transition (s .args .base + c .before .before .plain-at .result) w ∷ after
   split =
       terms-step (s .args .b .now) (s .args .at) (s .args .l) (s .args .base) (l .loop .i) (s .args .r) (omega arith)
-      ∙ ap₂ (λ (n k : ℕ). transition (s .args .base + n) k ∷ after) (sym (c .before .before .size-at .ensures .is)) (sym (c .before .size-at2 .ensures .is))
+      ∙ ap₂ (λ (n k : ℕ). transition (s .args .base + n) k ∷ after) (sym (c .before .before .plain-at .ensures .is)) (sym (c .before .plain-at2 .ensures .is))
 
   here : natAbs (toZ w64 (l .loop .acc)) + (w * natAbs value + absExpected v after) ≤ 4000000000000000000
   here = rw split at (l .loop .inv .1)
@@ -98,7 +102,7 @@ element-copy-out-mul-add c = below c
 
 mul-add-requires : tie.Need-mul-add-requires Inv-loop μ-loop
 mul-add-requires c κs =
-    rw (read64 (value c) (c .mul-add-arg .given)) (omega (arith, here c), omega (arith, c .before .size-at2 .ensures .small))
+    rw (read64 (value c) (c .mul-add-arg .given)) (omega (arith, here c), omega (arith, c .before .plain-at2 .ensures .small))
 
 add-i : tie.Need-add-i Inv-loop μ-loop
 add-i c = search needs
@@ -111,7 +115,7 @@ loop-again c =
     let d = c .before in
     let l = d .before .before .before .before in
     let s = l .before in
-    let e : c .mul-add .result ≡ toZ w64 (l .loop .acc) +ℤ pos (d .before .size-at2 .result) *ℤ value d =
+    let e : c .mul-add .result ≡ toZ w64 (l .loop .acc) +ℤ pos (d .before .plain-at2 .result) *ℤ value d =
     rw (read64 (value d) (d .mul-add-arg .given)) at (c .mul-add .ensures)
     in
     rw (read64 (c .mul-add .result) (c .mul-add .ok), e) (
@@ -119,9 +123,9 @@ loop-again c =
       omega (
         arith,
         here d,
-        sum-small (toZ w64 (l .loop .acc)) (d .before .size-at2 .result) (value d) (omega (arith, here d)),
+        sum-small (toZ w64 (l .loop .acc)) (d .before .plain-at2 .result) (value d) (omega (arith, here d)),
       ),
-      one-more (toZ w64 (l .loop .acc)) (pos (d .before .size-at2 .result) *ℤ value d) _ _ (rest d),
+      one-more (toZ w64 (l .loop .acc)) (pos (d .before .plain-at2 .result) *ℤ value d) _ _ (rest d),
     )
 
 returns : tie.Need-returns Inv-loop μ-loop
@@ -143,12 +147,12 @@ expect-spec =
     Inv-loop
     μ-loop
     loop-holds
-    add-size-at
-    size-at-requires
+    add-plain-at
+    plain-at-requires
     add-next
-    add-size-at-2
-    add-size-at-3
-    size-at-requires-2
+    add-plain-at-2
+    add-plain-at-3
+    plain-at-requires-2
     mul-mul-add
     element-copy-out-mul-add
     mul-add-requires

@@ -4,7 +4,8 @@ use mathlib.Core.Path.{_≡_, sym, ap, _∙_}
 use Prim.Native.Nat.{_-_, _≤_}
 use native.Mathlib.Omega.{arith}
 use Rattle.model.specs.Model.{lineAfter, actionLine}
-use Rattle.index.proofs.Lines.{line-start, line-next, first-inside, first-up}
+use Rattle.index.proofs.Lines.{line-start, line-next, first-inside}
+use Rattle.index.proofs.Signs.{first-up}
 use borrow.Author.Needs.{needs}
 use Rattle.index.proofs.action_line.Statement.{statement}
 use Rattle.index.proofs.action_line.Tie as tie

@@ -1,6 +1,6 @@
 -- The next states of the transitions from i on are still to be marked.
 -- Assumes nothing.
-use mathlib.Core.Path.{_≡_, ap, ap₂, _∙_}
+use mathlib.Core.Path.{_≡_, refl, ap, ap₂, _∙_}
 use mathlib.Core.Bool.{true}
 use Prim.Native.Nat.{ℕ, _+_, _-_, _≤_, _<_}
 use native.Mathlib.Omega.{arith}
@@ -11,6 +11,7 @@ use Rattle.questions.specs.Sizes.{Sized}
 use Rattle.accepted.specs.Facts.{accepted}
 use Rattle.book.proofs.Columns.{left-is, branches-are}
 use Rattle.index.proofs.Lines.{lines-inside}
+use Rattle.index.proofs.Signs.{line-up, next-up}
 use Rattle.policy.proofs.Marking.{ToMark, all-to-mark, mark-next, all-marked}
 use borrow.Author.Needs.{needs}
 use Rattle.policy.proofs.mark_nexts.Statement.{statement}
@@ -53,15 +54,21 @@ action-line-requires c κs =
 add-at-3 : tie.Need-add-at-3 Inv-loop μ-loop
 add-at-3 c = let s = c .before .before .before .before in let z = sizes s in omega (arith, inside s)
 
-size-at-requires : tie.Need-size-at-requires Inv-loop μ-loop
-size-at-requires c κs = let s = c .before .before .before .before in let z = sizes s in omega (arith, inside s)
+plain-at-requires : tie.Need-plain-at-requires Inv-loop μ-loop
+plain-at-requires c κs =
+    let s = c .before .before .before .before in
+    let z = sizes s in (
+      omega (arith, inside s),
+      line-up (ws s) (s .pre .0) (s .args .p) (s .pre .3) (s .args .c) (s .pre .4) (s .args .z) (s .pre .1) (c .action-line .result)
+          (c .action-line .ensures) _ refl,
+    )
 
 -- r, as it was read
-r-is : (c : tie.After-size-at Inv-loop μ-loop) → let s = c .before .before .before .before .before in
-    c .size-at .result ≡ branches (ws s) (actionLine (ws s) (s .args .p) (s .args .c))
+r-is : (c : tie.After-plain-at Inv-loop μ-loop) → let s = c .before .before .before .before .before in
+    c .plain-at .result ≡ branches (ws s) (actionLine (ws s) (s .args .p) (s .args .c))
 r-is c =
     let s = c .before .before .before .before .before in
-    branches-are (ws s) (s .args .z) (s .pre .1) (c .before .action-line .result) (c .size-at .result) (c .size-at .ensures .is)
+    branches-are (ws s) (s .args .z) (s .pre .1) (c .before .action-line .result) (c .plain-at .result) (c .plain-at .ensures .is)
     ∙ ap (branches (ws s)) (c .before .action-line .ensures)
 
 add-base : tie.Need-add-base Inv-loop μ-loop
@@ -77,29 +84,33 @@ loop-holds : tie.Need-loop-holds Inv-loop μ-loop
 loop-holds c =
     let s = c .before .before .before .before .before .before in (
       omega arith,
-      all-to-mark (ws s) (s .args .p) (s .args .c) (c .before .size-at .result) (s .pre .0) (s .pre .3) (s .pre .4) (r-is (c .before))
+      all-to-mark (ws s) (s .args .p) (s .args .c) (c .before .plain-at .result) (s .pre .0) (s .pre .3) (s .pre .4) (r-is (c .before))
           (s .args .marks .now),
     )
 
 add-i : tie.Need-add-i Inv-loop μ-loop
 add-i c = search needs
 
-add-size-at : tie.Need-add-size-at Inv-loop μ-loop
-add-size-at c =
+add-plain-at : tie.Need-add-plain-at Inv-loop μ-loop
+add-plain-at c =
     let r = c .before .before .before in
     let s = r .before .before .before .before .before in
     let z = sizes s in
     omega (arith, inside s, r-is r)
 
-size-at-requires-2 : tie.Need-size-at-requires-2 Inv-loop μ-loop
-size-at-requires-2 c κs =
+plain-at-requires-2 : tie.Need-plain-at-requires-2 Inv-loop μ-loop
+plain-at-requires-2 c κs =
     let r = c .before .before .before in
     let s = r .before .before .before .before .before in
-    let z = sizes s in
-    omega (arith, inside s, r-is r)
+    let j = r .before .action-line in
+    let z = sizes s in (
+      omega (arith, inside s, r-is r),
+      next-up (ws s) (s .pre .0) (s .args .p) (s .pre .3) (s .args .c) (s .pre .4) (s .args .z) (s .pre .1) (j .result) (j .ensures)
+          (c .before .loop .i) _ (omega (arith, r-is r, ap (branches (ws s)) (j .ensures))) (omega arith),
+    )
 
 -- at the turn of transition i
-module _ (c : tie.After-size-at2 Inv-loop μ-loop) where
+module _ (c : tie.After-plain-at2 Inv-loop μ-loop) where
   abbrev l : tie.At-loop Inv-loop μ-loop
   l = c .before .before
 
@@ -107,16 +118,16 @@ module _ (c : tie.After-size-at2 Inv-loop μ-loop) where
   s = l .before .before .before .before .before .before .before
 
   abbrev r : ℕ
-  r = l .before .before .size-at .result
+  r = l .before .before .plain-at .result
 
   abbrev q : ℕ
-  q = getD (s .args .x .now) (64 + s .args .p) 0 + c .size-at2 .result
+  q = getD (s .args .x .now) (64 + s .args .p) 0 + c .plain-at2 .result
 
   -- the next state, as it was read
   q-is : q ≡ firstState (ws s) (stage (ws s) (s .args .p) + 1) + natAbs (left (ws s) (actionLine (ws s) (s .args .p) (s .args .c) + 1 + l .loop .i))
   q-is =
       ap₂ _+_ (s .pre .2 .base (s .args .p) (s .pre .3))
-      (c .size-at2 .ensures .is
+      (c .plain-at2 .ensures .is
       ∙ ap natAbs (left-is (ws s) (s .args .z) (s .pre .1) (actionLine (ws s) (s .args .p) (s .args .c) + 1 + l .loop .i) _
       (omega (arith, l .before .before .before .action-line .ensures))))
 
@@ -140,7 +151,7 @@ returns : tie.Need-returns Inv-loop μ-loop
 returns c =
     let l = c .before in
     let s = l .before .before .before .before .before .before .before in
-    all-marked (ws s) (s .args .p) (s .args .c) (l .before .before .size-at .result) (l .loop .i) (s .args .marks .now) (l .loop .marks)
+    all-marked (ws s) (s .args .p) (s .args .c) (l .before .before .plain-at .result) (l .loop .i) (s .args .marks .now) (l .loop .marks)
     (l .loop .inv .1) (omega arith)
 
 pub mark-nexts-spec : {M : Type 1} → statement M
@@ -155,14 +166,14 @@ mark-nexts-spec =
     element-copy-out-action-line
     action-line-requires
     add-at-3
-    size-at-requires
+    plain-at-requires
     add-base
     mul-base
     element-copy-out-base
     loop-holds
     add-i
-    add-size-at
-    size-at-requires-2
+    add-plain-at
+    plain-at-requires-2
     add-q
     element-write-marks
     loop-less

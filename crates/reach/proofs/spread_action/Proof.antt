@@ -9,6 +9,7 @@ use Rattle.model.specs.Model.{Words, word, branches, action}
 use Rattle.questions.specs.Sizes.{Sized}
 use Rattle.accepted.specs.Facts.{accepted}
 use Rattle.book.proofs.Columns.{branches-are}
+use Rattle.index.proofs.Signs.{line-up, next-up, weight-up}
 use Rattle.splits.specs.Reach.{spread}
 use Rattle.costs.specs.Terms.{ActionAt}
 use Rattle.costs.proofs.Actions.{inside-lines}
@@ -67,8 +68,19 @@ module _ (c : tie.After-action-line Inv-loop μ-loop) where
 add-line-3 : tie.Need-add-line-3 Inv-loop μ-loop
 add-line-3 c = let z = sizes (s c) in omega (arith, inside c)
 
-size-at-requires : tie.Need-size-at-requires Inv-loop μ-loop
-size-at-requires c κs = omega (arith, inside c)
+plain-at-requires : tie.Need-plain-at-requires Inv-loop μ-loop
+plain-at-requires c κs =
+    let g = s c in (
+      omega (arith, inside c),
+      line-up (ws c) (g .pre .0) (g .args .p) (g .pre .3) (g .args .c) (g .pre .4) (g .args .z) (g .pre .1) (c .action-line .result)
+          (c .action-line .ensures) _ refl,
+    )
+
+-- r, as it was read
+r-is : (c : tie.After-plain-at Inv-loop μ-loop) → c .plain-at .result ≡ branches (ws (c .before)) (c .before .action-line .result)
+r-is c =
+    let g = s (c .before) in
+    branches-are (ws (c .before)) (g .args .z) (g .pre .1) (c .before .action-line .result) (c .plain-at .result) (c .plain-at .ensures .is)
 
 add-at : tie.Need-add-at Inv-loop μ-loop
 add-at c = let z = sizes (s (c .before)) in omega (arith, inside (c .before))
@@ -84,27 +96,32 @@ element-copy-out-base c = let z = sizes (s (c .before)) in omega arith
 
 loop-holds : tie.Need-loop-holds Inv-loop μ-loop
 loop-holds c =
-    let r = c .before .size-at in
+    let r = c .before .plain-at in
     let a = c .before .before in
     let g = s a .args in
-    let z = sizes (s a) in
-    let r-is : r .result ≡ branches (ws a) (a .action-line .result)
-    = branches-are (ws a) (g .z) (s a .pre .1) (a .action-line .result) (r .result) (r .ensures .is) in (
+    let z = sizes (s a) in (
       omega arith,
-      omega (arith, inside a),
+      omega (arith, inside a, r-is (c .before)),
       omega arith,
       all-to-spread (ws a) (s a .pre .0) (g .z) (s a .pre .1) (g .p) (g .c) (a .action-line .result) (here a) _ (r .result)
-          (getD (g .x .now) (64 + g .p) 0) (g .y) (g .w .now) refl r-is (s a .pre .2 .base (g .p) (s a .pre .3)) (s a .pre .5) (s a .pre .6),
+          (getD (g .x .now) (64 + g .p) 0) (g .y) (g .w .now) refl (r-is (c .before)) (s a .pre .2 .base (g .p) (s a .pre .3)) (s a .pre .5) (s a .pre .6),
     )
 
-add-size-at : tie.Need-add-size-at Inv-loop μ-loop
-add-size-at c = omega arith
+add-plain-at : tie.Need-add-plain-at Inv-loop μ-loop
+add-plain-at c = omega arith
 
-size-at-requires-2 : tie.Need-size-at-requires-2 Inv-loop μ-loop
-size-at-requires-2 c κs = omega arith
+plain-at-requires-2 : tie.Need-plain-at-requires-2 Inv-loop μ-loop
+plain-at-requires-2 c κs =
+    let b = c .before .before .before in
+    let a = b .before in
+    let g = s a in (
+      omega arith,
+      next-up (ws a) (g .pre .0) (g .args .p) (g .pre .3) (g .args .c) (g .pre .4) (g .args .z) (g .pre .1) (a .action-line .result)
+          (a .action-line .ensures) (c .before .loop .i) _ (omega (arith, r-is b)) refl,
+    )
 
 -- at the turn of transition i
-module _ (c : tie.After-size-at2 Inv-loop μ-loop) where
+module _ (c : tie.After-plain-at2 Inv-loop μ-loop) where
   abbrev l : tie.At-loop Inv-loop μ-loop
   l = c .before .before
 
@@ -116,10 +133,10 @@ module _ (c : tie.After-size-at2 Inv-loop μ-loop) where
 
   -- the next state, as it was read
   abbrev q : ℕ
-  q = base + c .size-at2 .result
+  q = base + c .plain-at2 .result
 
   q-is : q ≡ base + natAbs (word (ws a) (4 + s a .args .z .h + s a .args .z .s + a .action-line .result + 1 + l .loop .i))
-  q-is = ap (λ (n : ℕ). base + n) (c .size-at2 .ensures .is)
+  q-is = ap (λ (n : ℕ). base + n) (c .plain-at2 .ensures .is)
 
   low : q < 64
   low = next-low (l .loop .inv .3) (c .before .loop-test .taken) q q-is
@@ -127,14 +144,21 @@ module _ (c : tie.After-size-at2 Inv-loop μ-loop) where
 add-q : tie.Need-add-q Inv-loop μ-loop
 add-q c = omega (arith, low c)
 
-add-size-at-2 : tie.Need-add-size-at-2 Inv-loop μ-loop
-add-size-at-2 c = omega arith
+add-plain-at-2 : tie.Need-add-plain-at-2 Inv-loop μ-loop
+add-plain-at-2 c = omega arith
 
-add-size-at-3 : tie.Need-add-size-at-3 Inv-loop μ-loop
-add-size-at-3 c = omega arith
+add-plain-at-3 : tie.Need-add-plain-at-3 Inv-loop μ-loop
+add-plain-at-3 c = omega arith
 
-size-at-requires-3 : tie.Need-size-at-requires-3 Inv-loop μ-loop
-size-at-requires-3 c κs = omega arith
+plain-at-requires-3 : tie.Need-plain-at-requires-3 Inv-loop μ-loop
+plain-at-requires-3 c κs =
+    let b = c .before .before .before .before in
+    let a = b .before in
+    let g = s a in (
+      omega arith,
+      weight-up (ws a) (g .pre .0) (g .args .p) (g .pre .3) (g .args .c) (g .pre .4) (g .args .z) (g .pre .1) (a .action-line .result)
+          (a .action-line .ensures) (c .before .before .loop .i) _ (omega (arith, r-is b)) (omega arith),
+    )
 
 mul-w : tie.Need-mul-w Inv-loop μ-loop
 mul-w c = omega (arith, low (c .before))
@@ -143,11 +167,11 @@ element-copy-out-w : tie.Need-element-copy-out-w Inv-loop μ-loop
 element-copy-out-w c = low (c .before)
 
 -- the sum of this turn
-small : (c : tie.After-size-at3 Inv-loop μ-loop) → let d = c .before in
-    getD (l d .loop .w) (q d) 0 + s (a d) .args .y * c .size-at3 .result ≤ 10000000000000000
+small : (c : tie.After-plain-at3 Inv-loop μ-loop) → let d = c .before in
+    getD (l d .loop .w) (q d) 0 + s (a d) .args .y * c .plain-at3 .result ≤ 10000000000000000
 small c =
     let d = c .before in
-    sum-small (l d .loop .inv .3) (d .before .loop-test .taken) (q d) (q-is d) (c .size-at3 .result) (c .size-at3 .ensures .is)
+    sum-small (l d .loop .inv .3) (d .before .loop-test .taken) (q d) (q-is d) (c .plain-at3 .result) (c .plain-at3 .ensures .is)
 
 mul-w-2 : tie.Need-mul-w-2 Inv-loop μ-loop
 mul-w-2 c = omega (arith, small (c .before))
@@ -169,7 +193,7 @@ loop-less c = omega arith
 
 loop-again : tie.Need-loop-again Inv-loop μ-loop
 loop-again c =
-    let k = c .before .size-at3 in
+    let k = c .before .plain-at3 in
     let d = c .before .before in
     let i = l d .loop .inv in
     (omega arith, i .1, i .2, spread-next (i .3) (d .before .loop-test .taken) (q d) (q-is d) (k .result) (k .ensures .is))
@@ -189,18 +213,18 @@ spread-action-spec =
     element-copy-out-action-line
     action-line-requires
     add-line-3
-    size-at-requires
+    plain-at-requires
     add-at
     add-base
     mul-base
     element-copy-out-base
     loop-holds
-    add-size-at
-    size-at-requires-2
+    add-plain-at
+    plain-at-requires-2
     add-q
-    add-size-at-2
-    add-size-at-3
-    size-at-requires-3
+    add-plain-at-2
+    add-plain-at-3
+    plain-at-requires-3
     mul-w
     element-copy-out-w
     mul-w-2

@@ -1,0 +1,74 @@
+-- No number of transitions, next state or weight of an accepted book is below 0.
+-- Assumes nothing.
+use mathlib.Core.Path.{_≡_, refl, ap}
+use mathlib.Core.Bool.{Bool, true, false, cond}
+use mathlib.Core.Logic.{_⊎_, inl, inr}
+use Prim.Native.Nat.{ℕ, zero, suc, _+_, _<_}
+use native.Mathlib.Omega.{arith}
+use borrow.Author.Tests.{ltb-true}
+use lib.Dec.{eqb}
+use lib.IntN.{ℤ, pos, negsuc}
+use lib.Signed.{ltZ}
+use Rattle.model.specs.Model.{Words, word, scale, horizon, stateCount, stage, actionCount, left, right, branches, actionLine}
+use Rattle.model.specs.Questions.{inside, branchesAllowed, nextBefore, nextsAllowed, weightsAllowed, bookNumber}
+use Rattle.questions.specs.Ranges.{and-true, all-at}
+use Rattle.accepted.specs.Facts.{accepted}
+use Rattle.book.specs.Read.{SizesAre}
+use Rattle.book.specs.declared.Sizes.{Sizes}
+use Rattle.book.proofs.Columns.{left-is, right-is}
+use Rattle.index.specs.Index.{NotBelow0}
+
+-- what is lo or more
+from-up : (lo : ℕ) (hi z : ℤ) → inside (pos lo) hi z ≡ true → NotBelow0 z
+from-up lo hi (pos n) e = refl
+from-up lo hi (negsuc n) e = let z : _≡_ {A = ℕ} 0 1 = cc in absurd (omega arith)
+
+-- what is above -1, or above a number that is not below 0
+above : (y x : ℤ) → (y ≡ negsuc 0) ⊎ NotBelow0 y → ltZ y x ≡ true → NotBelow0 x
+above y (pos n) h e = refl
+above y (negsuc n) h e = absurd (go y h e)
+  where
+    go : (y : ℤ) → (y ≡ negsuc 0) ⊎ NotBelow0 y → ltZ y (negsuc n) ≡ true → ⊥
+    go (pos m) h e = let z : _≡_ {A = ℕ} 0 1 = cc in omega arith
+    go (negsuc m) (inl q) e = let k : m ≡ 0 = cc in omega (arith, ltb-true n m e)
+    go (negsuc m) (inr q) e = let z : _≡_ {A = ℕ} 0 1 = cc in omega arith
+
+module _ (ws : Words) (ok : bookNumber ws ≡ 0) (p : ℕ) (hp : p < stateCount ws) (c : ℕ) (hc : c < actionCount ws p) where
+  abbrev line : ℕ
+  line = actionLine ws p c
+
+  pub first-up : NotBelow0 (left ws line)
+  unfolding branchesAllowed
+  first-up = go (eqb (stage ws p) (horizon ws)) (and-true _ _ (accepted ws ok .branches-allowed p c hp hc) .0)
+    where
+      go : (b : Bool) → cond b (inside (pos 0) (pos 0) (left ws line)) (inside (pos 1) (pos 16) (left ws line)) ≡ true → NotBelow0 (left ws line)
+      go true e = from-up 0 (pos 0) _ e
+      go false e = from-up 1 (pos 16) _ e
+
+  nexts-rise : (i : ℕ) → i < branches ws line → ltZ (nextBefore ws line i) (left ws (line + 1 + i)) ≡ true
+  unfolding nextsAllowed
+  nexts-rise i h = and-true _ _ (all-at (branches ws line) _ (accepted ws ok .nexts-allowed p c hp hc) i h) .0
+
+  nexts-up : (i : ℕ) → i < branches ws line → NotBelow0 (left ws (line + 1 + i))
+  nexts-up zero h = above (negsuc 0) _ (inl refl) (nexts-rise zero h)
+  nexts-up (suc i) h = above (left ws (line + 1 + i)) _ (inr (nexts-up i (omega arith))) (nexts-rise (suc i) h)
+
+  weights-up : (i : ℕ) → i < branches ws line → NotBelow0 (right ws (line + 1 + i))
+  unfolding weightsAllowed
+  weights-up i h =
+      from-up 1 (pos (scale ws)) _
+      (all-at (branches ws line) _ (and-true _ _ (accepted ws ok .weights-allowed p c hp hc) .0) i h)
+
+  -- by their words, where the action's first line is line j
+  module _ (z : Sizes) (are : SizesAre ws z) (j : ℕ) (at : j ≡ line) where
+    inside-line : (i : ℕ) → i < branches ws j → i < branches ws line
+    inside-line i h = omega (arith, h, ap (branches ws) at)
+
+    pub line-up : (k : ℕ) → k ≡ 4 + z .h + z .s + j → NotBelow0 (word ws k)
+    line-up k e = rw (left-is ws z are j k e, at) first-up
+
+    pub next-up : (i k : ℕ) → i < branches ws j → k ≡ 4 + z .h + z .s + j + 1 + i → NotBelow0 (word ws k)
+    next-up i k h e = rw (left-is ws z are (line + 1 + i) k (omega (arith, e, at))) (nexts-up i (inside-line i h))
+
+    pub weight-up : (i k : ℕ) → i < branches ws j → k ≡ 4 + z .h + z .s + j + 1 + z .l + i → NotBelow0 (word ws k)
+    weight-up i k h e = rw (right-is ws z are (line + 1 + i) k (omega (arith, e, at))) (weights-up i (inside-line i h))
