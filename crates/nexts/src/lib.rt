@@ -17,13 +17,13 @@ fn next_set(b: &[i32], z: Sizes, x: &[usize; 192], p: usize, c: usize, j: usize)
     ensures { λ r. ⌜ SetOf r (nexts (action (now (b .entry)) p c .transitions)) ⌝ }
 {
     let at = 4 + z.h + z.s + j;
-    let r = book::size_at(b, at);
+    let r = index::plain_at(b, at);
     let base = x[64 + p];
     let mut set: u64 = 0;
     let mut i: usize = 0;
     while i < r {
         i = i + 1;
-        let q = base + book::size_at(b, at + i);
+        let q = base + index::plain_at(b, at + i);
         set = sets::add(set, q as u64);
     }
     set

@@ -5,7 +5,8 @@ use Prim.Native.Nat.{_-_, _≤_, _<_}
 use native.Mathlib.Omega.{arith}
 use Rattle.model.specs.Model.{actionCount, lineAfter, actionLine}
 use Rattle.accepted.specs.Facts.{accepted}
-use Rattle.index.proofs.Lines.{line-start, line-next, first-inside, first-up}
+use Rattle.index.proofs.Lines.{line-start, line-next, first-inside}
+use Rattle.index.proofs.Signs.{first-up}
 use Rattle.nexts.specs.Nexts.{NextsTo}
 use Rattle.nexts.proofs.Rows.{one-more}
 use borrow.Author.Needs.{needs}

@@ -1,6 +1,6 @@
 -- The next states of the transitions from i on are still to be added.
 -- Assumes nothing.
-use mathlib.Core.Path.{_≡_, sym, ap, ap₂, _∙_, subst}
+use mathlib.Core.Path.{_≡_, refl, sym, ap, ap₂, _∙_, subst}
 use Prim.Native.Nat.{ℕ, _+_, _-_, _≤_, _<_}
 use native.Mathlib.Omega.{arith}
 use lib.IntN.{natAbs}
@@ -10,6 +10,7 @@ use Rattle.questions.specs.Sizes.{Sized}
 use Rattle.accepted.specs.Facts.{accepted}
 use Rattle.book.proofs.Columns.{left-is, branches-are}
 use Rattle.index.proofs.Lines.{lines-inside}
+use Rattle.index.proofs.Signs.{line-up, next-up}
 use Rattle.sets.specs.Sets.{plus}
 use Rattle.nexts.proofs.Gather.{ToAdd, all-to-add, add-next, all-added}
 use borrow.Author.Needs.{needs}
@@ -42,15 +43,20 @@ add-at-2 c = let z = sizes (c .before .before) in omega arith
 add-at-3 : tie.Need-add-at-3 Inv-loop μ-loop
 add-at-3 c = let s = c .before .before in let z = sizes s in omega (arith, inside s, s .pre .5)
 
-size-at-requires : tie.Need-size-at-requires Inv-loop μ-loop
-size-at-requires c κs = let s = c .before .before in let z = sizes s in omega (arith, inside s, s .pre .5)
+plain-at-requires : tie.Need-plain-at-requires Inv-loop μ-loop
+plain-at-requires c κs =
+    let s = c .before .before in
+    let z = sizes s in (
+      omega (arith, inside s, s .pre .5),
+      line-up (ws s) (s .pre .0) (s .args .p) (s .pre .3) (s .args .c) (s .pre .4) (s .args .z) (s .pre .1) (s .args .j) (s .pre .5) _ refl,
+    )
 
 -- r, as it was read
-r-is : (c : tie.After-size-at Inv-loop μ-loop) → let s = c .before .before .before in
-    c .size-at .result ≡ branches (ws s) (actionLine (ws s) (s .args .p) (s .args .c))
+r-is : (c : tie.After-plain-at Inv-loop μ-loop) → let s = c .before .before .before in
+    c .plain-at .result ≡ branches (ws s) (actionLine (ws s) (s .args .p) (s .args .c))
 r-is c =
     let s = c .before .before .before in
-    branches-are (ws s) (s .args .z) (s .pre .1) (s .args .j) (c .size-at .result) (c .size-at .ensures .is) ∙ ap (branches (ws s)) (s .pre .5)
+    branches-are (ws s) (s .args .z) (s .pre .1) (s .args .j) (c .plain-at .result) (c .plain-at .ensures .is) ∙ ap (branches (ws s)) (s .pre .5)
 
 add-base : tie.Need-add-base Inv-loop μ-loop
 add-base c = let z = sizes (c .before .before .before) in omega arith
@@ -65,28 +71,31 @@ loop-holds : tie.Need-loop-holds Inv-loop μ-loop
 loop-holds c =
     let s = c .before .before .before .before in (
       omega arith,
-      all-to-add (ws s) (s .args .p) (s .args .c) (c .before .size-at .result) (s .pre .0) (s .pre .3) (s .pre .4) (r-is (c .before)),
+      all-to-add (ws s) (s .args .p) (s .args .c) (c .before .plain-at .result) (s .pre .0) (s .pre .3) (s .pre .4) (r-is (c .before)),
     )
 
 add-i : tie.Need-add-i Inv-loop μ-loop
 add-i c = search needs
 
-add-size-at : tie.Need-add-size-at Inv-loop μ-loop
-add-size-at c =
+add-plain-at : tie.Need-add-plain-at Inv-loop μ-loop
+add-plain-at c =
     let r = c .before .before .before in
     let s = r .before .before .before in
     let z = sizes s in
     omega (arith, inside s, r-is r, s .pre .5)
 
-size-at-requires-2 : tie.Need-size-at-requires-2 Inv-loop μ-loop
-size-at-requires-2 c κs =
+plain-at-requires-2 : tie.Need-plain-at-requires-2 Inv-loop μ-loop
+plain-at-requires-2 c κs =
     let r = c .before .before .before in
     let s = r .before .before .before in
-    let z = sizes s in
-    omega (arith, inside s, r-is r, s .pre .5)
+    let z = sizes s in (
+      omega (arith, inside s, r-is r, s .pre .5),
+      next-up (ws s) (s .pre .0) (s .args .p) (s .pre .3) (s .args .c) (s .pre .4) (s .args .z) (s .pre .1) (s .args .j) (s .pre .5)
+          (c .before .loop .i) _ (omega (arith, r-is r, ap (branches (ws s)) (s .pre .5))) (omega arith),
+    )
 
 -- at the turn of transition i
-module _ (c : tie.After-size-at2 Inv-loop μ-loop) where
+module _ (c : tie.After-plain-at2 Inv-loop μ-loop) where
   abbrev l : tie.At-loop Inv-loop μ-loop
   l = c .before .before
 
@@ -94,16 +103,16 @@ module _ (c : tie.After-size-at2 Inv-loop μ-loop) where
   s = l .before .before .before .before .before
 
   abbrev r : ℕ
-  r = l .before .before .size-at .result
+  r = l .before .before .plain-at .result
 
   abbrev q : ℕ
-  q = getD (s .args .x .now) (64 + s .args .p) 0 + c .size-at2 .result
+  q = getD (s .args .x .now) (64 + s .args .p) 0 + c .plain-at2 .result
 
   -- the next state, as it was read
   q-is : q ≡ firstState (ws s) (stage (ws s) (s .args .p) + 1) + natAbs (left (ws s) (actionLine (ws s) (s .args .p) (s .args .c) + 1 + l .loop .i))
   q-is =
       ap₂ _+_ (s .pre .2 .base (s .args .p) (s .pre .3))
-      (c .size-at2 .ensures .is
+      (c .plain-at2 .ensures .is
       ∙ ap natAbs (left-is (ws s) (s .args .z) (s .pre .1) (actionLine (ws s) (s .args .p) (s .args .c) + 1 + l .loop .i) _
       (omega (arith, s .pre .5))))
 
@@ -128,7 +137,7 @@ returns : tie.Need-returns Inv-loop μ-loop
 returns c =
     let l = c .before in
     let s = l .before .before .before .before .before in
-    all-added (ws s) (s .args .p) (s .args .c) (l .before .before .size-at .result) (l .loop .i) (l .loop .set) (l .loop .inv .1) (omega arith)
+    all-added (ws s) (s .args .p) (s .args .c) (l .before .before .plain-at .result) (l .loop .i) (l .loop .set) (l .loop .inv .1) (omega arith)
 
 pub next-set-spec : {M : Type 1} → statement M
 next-set-spec =
@@ -139,14 +148,14 @@ next-set-spec =
     add-at
     add-at-2
     add-at-3
-    size-at-requires
+    plain-at-requires
     add-base
     mul-base
     element-copy-out-base
     loop-holds
     add-i
-    add-size-at
-    size-at-requires-2
+    add-plain-at
+    plain-at-requires-2
     add-q
     add-requires
     loop-less
