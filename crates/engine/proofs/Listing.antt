@@ -1,10 +1,13 @@
 -- The search, step by step: what is still to be listed, written over what stands there now, gives the result.
 -- Assumes nothing.
 use mathlib.Core.Path.{_≡_, refl, sym, ap, _∙_, subst}
+use mathlib.Core.Bool.{Bool, cond}
 use mathlib.Core.List.{List, [], _∷_, _++_, map}
 use Prim.Native.Nat.{ℕ, zero, suc, _+_, _*_, _-_, _≤_, _<_}
 use native.Mathlib.Nat.{zero-add, mul-le-mul-right}
+use native.Mathlib.Decide.{ℕ-discrete}
 use native.Mathlib.Omega.{arith}
+use borrow.Author.Tests.{eq-eqb, ne-eqb}
 use lib.IntN.{ℤ}
 use lib.ListN.{length, set, getD, take, length-set, length-append, length-map}
 use Rattle.model.specs.Model.{Words, stateCount}
@@ -20,7 +23,7 @@ use Rattle.stored.specs.Children.{Right, plan-model, children-right}
 use Rattle.stored.specs.Runs.{childrenOf, runEntries, costIn, runs-are, admit-map}
 use Rattle.pool.specs.declared.Pool.{Pool}
 use Rattle.pool.specs.Entries.{Formed, entryAt, firstEntry, entries}
-use Rattle.engine.specs.Engine.{splitPool, plansIn, Found}
+use Rattle.engine.specs.Engine.{splitPool, restPool, plansIn, Found}
 
 -- ---- the pool as a list
 
@@ -102,6 +105,19 @@ module _ (ws : Words) (ok : bookNumber ws ≡ 0) (k : ℕ) where
         let z : k - j ≡ 0 = omega arith in
         ap (λ (n : ℕ). runEntries ws k n es) z
 
+    -- other entries of which the same is listed
+    swapped : (j : ℕ) (es es′ : List Entry) (costs : List ℤ) (plans : List ℕ) → runEntries ws k (k - j) es ≡ runEntries ws k (k - j) es′ → Every (Right ws) es′
+        → Listing ws k first costs₀ plans₀ j es costs plans → Listing ws k first costs₀ plans₀ j es′ costs plans
+    swapped j es es′ costs plans e h l =
+        record {
+          right = h;
+          count-is = subst (λ (r : List Entry). j + length r ≡ length L) e (l .count-is);
+          costs-are = subst (λ (r : List Entry). written costs j (length r) (map costIn r) ≡ over (map costIn L) costs₀) e (l .costs-are);
+          plans-are = subst (λ (r : List Entry). written plans (j * S) (length r * S) (plansIn r) ≡ over (plansIn L) plans₀) e (l .plans-are);
+          costs-long = l .costs-long;
+          plans-long′ = l .plans-long′;
+        }
+
     pub none-waits : (n : ℕ) (es : List Entry) → es ≡ [] → runEntries ws k n es ≡ []
     none-waits n es h = ap (runEntries ws k n) h ∙ empty n
       where
@@ -159,10 +175,23 @@ module _ (ws : Words) (ok : bookNumber ws ≡ 0) (k : ℕ) where
       pub first-right : Right ws (firstEntry S pool)
       first-right = subst (Every (Right ws)) (pool-first S pool formed some .1) (l .right) .0
 
-      pub pool-next : {es : List Entry} {cs : List ℤ} {ps : List ℕ} → j < k → k ≤ length costs₀ → k * S ≤ length plans₀ → es ≡ splitPool ws k (entries S pool)
+      pub pool-next : {es : List Entry} {cs : List ℤ} {ps : List ℕ} → j < k → k ≤ length costs₀ → k * S ≤ length plans₀ → es ≡ restPool ws k j (entries S pool)
           → cs ≡ set costs j (firstEntry S pool .cost) → ps ≡ written plans (j * S) S (firstEntry S pool .plan)
           → Listing ws k first costs₀ plans₀ (j + 1) es cs ps
-      pool-next {es} {cs} {ps} more c-room p-room he hc hp =
-          let f = pool-first S pool formed some in
-          next j (firstEntry S pool) (f .0) costs plans (subst (λ (es : List Entry). Listing ws k first costs₀ plans₀ j es costs plans) (f .1) l) more
-          (omega (arith, l .costs-long)) (omega (arith, l .plans-long′)) es cs ps (he ∙ ap (splitPool ws k) (f .1)) hc hp
+      pool-next {es} {cs} {ps} more c-room p-room he hc hp = go (ℕ-discrete (j + 1) k)
+        where
+          split : Listing ws k first costs₀ plans₀ (j + 1) (splitPool ws k (entries S pool)) cs ps
+          split =
+              let f = pool-first S pool formed some in
+              next j (firstEntry S pool) (f .0) costs plans (subst (λ (es : List Entry). Listing ws k first costs₀ plans₀ j es costs plans) (f .1) l) more
+              (omega (arith, l .costs-long)) (omega (arith, l .plans-long′)) (splitPool ws k (entries S pool)) cs ps (ap (splitPool ws k) (f .1)) hc hp
+
+          go : Dec (j + 1 ≡ k) → Listing ws k first costs₀ plans₀ (j + 1) es cs ps
+          go (yes e) =
+              let all : k ≤ j + 1 = omega arith in
+              let same = he ∙ ap (λ (t : Bool). cond t (entries S pool) (splitPool ws k (entries S pool))) (eq-eqb (j + 1) k e) in
+              swapped (j + 1) (splitPool ws k (entries S pool)) es cs ps (done (j + 1) (splitPool ws k (entries S pool)) all ∙ sym (done (j + 1) es all))
+              (subst (Every (Right ws)) (sym same) (l .right)) split
+          go (no n) =
+              let same = he ∙ ap (λ (t : Bool). cond t (entries S pool) (splitPool ws k (entries S pool))) (ne-eqb (j + 1) k n) in
+              subst (λ (es : List Entry). Listing ws k first costs₀ plans₀ (j + 1) es cs ps) (sym same) split

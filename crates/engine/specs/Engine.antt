@@ -1,9 +1,11 @@
 -- What the search asks of its parts and what each step makes of the pool.
 -- Assumes nothing.
 use mathlib.Core.Path.{_≡_}
+use mathlib.Core.Bool.{cond}
 use mathlib.Core.List.{List, [], _∷_, map}
-use Prim.Native.Nat.{ℕ, _-_, _≤_, _<_}
+use Prim.Native.Nat.{ℕ, _+_, _-_, _≤_, _<_}
 use lib.IntN.{ℤ}
+use lib.Dec.{eqb}
 use lib.ListN.{length, take}
 use Rattle.model.specs.Lists.{insert, forEach}
 use Rattle.model.specs.Path.{byteAt}
@@ -86,6 +88,10 @@ admittedFrom ws k e p n es = admit earlierEntry itself k (childEntries ws e p n)
 abbrev pub splitPool : Words → ℕ → List Entry → List Entry
 splitPool ws k [] = []
 splitPool ws k (e ∷ es) = admit earlierEntry itself k (childrenOf ws e) es
+
+-- the entries after policy j of k was listed: after the last none is split
+abbrev pub restPool : Words → ℕ → ℕ → List Entry → List Entry
+restPool ws k j es = cond (eqb (j + 1) k) es (splitPool ws k es)
 
 -- the bytes of the policies of entries, one after the other
 abbrev pub plansIn : List Entry → List ℕ

@@ -17,7 +17,7 @@ ghost use Rattle.book.specs.Read.{SizesAre};
 ghost use Rattle.nexts.specs.Nexts.{NextsOf};
 ghost use Rattle.build.specs.Best.{BestOf};
 ghost use Rattle.build.specs.Walk.{Usable};
-ghost use Rattle.engine.specs.Engine.{Ready, Parenting, Waiting, entryOf, childOf, joined, admitted, admittedFrom, splitPool, Found, firstCandidate, Ranked};
+ghost use Rattle.engine.specs.Engine.{Ready, Parenting, Waiting, entryOf, childOf, joined, admitted, admittedFrom, splitPool, restPool, Found, firstCandidate, Ranked};
 ghost use Rattle.laws.specs.Members.{Every};
 ghost use Rattle.pool.specs.Entries.{poolOf, entries, firstEntry};
 ghost use Rattle.stored.specs.Children.{Right};
@@ -217,7 +217,7 @@ fn split_first(
     )
 }
 
-// The first policy that waits is listed as policy j, and its candidate is split.
+// The first policy that waits is listed as policy j, and its candidate is split, unless it is the last that is listed.
 fn list_one(
     b: &[i32],
     z: Sizes,
@@ -237,7 +237,7 @@ fn list_one(
     plans: &mut [u8],
 ) -> usize
     requires { ⌜ Ready (now b) z (now x) (now nx) (now q) (now best) × Waiting k (poolOf (now cs) (now ps) (now ss) (now ms) (now os) n) × (1 ≤ n) × Right (now b) (firstEntry (stateCount (now b)) (poolOf (now cs) (now ps) (now ss) (now ms) (now os) n)) × (j < k) × (j < length (now costs)) × (j * stateCount (now b) + stateCount (now b) ≤ length (now plans)) ⌝ }
-    ensures { λ r. ⌜ Waiting k (poolOf (now (cs .exit)) (now (ps .exit)) (now (ss .exit)) (now (ms .exit)) (now (os .exit)) r) × (entries (stateCount (now (b .entry))) (poolOf (now (cs .exit)) (now (ps .exit)) (now (ss .exit)) (now (ms .exit)) (now (os .exit)) r) ≡ splitPool (now (b .entry)) k (entries (stateCount (now (b .entry))) (poolOf (now (cs .entry)) (now (ps .entry)) (now (ss .entry)) (now (ms .entry)) (now (os .entry)) n))) × (now (costs .exit) ≡ set (now (costs .entry)) j (firstEntry (stateCount (now (b .entry))) (poolOf (now (cs .entry)) (now (ps .entry)) (now (ss .entry)) (now (ms .entry)) (now (os .entry)) n) .cost)) × (now (plans .exit) ≡ written (now (plans .entry)) (j * stateCount (now (b .entry))) (stateCount (now (b .entry))) (firstEntry (stateCount (now (b .entry))) (poolOf (now (cs .entry)) (now (ps .entry)) (now (ss .entry)) (now (ms .entry)) (now (os .entry)) n) .plan)) ⌝ }
+    ensures { λ r. ⌜ Waiting k (poolOf (now (cs .exit)) (now (ps .exit)) (now (ss .exit)) (now (ms .exit)) (now (os .exit)) r) × (entries (stateCount (now (b .entry))) (poolOf (now (cs .exit)) (now (ps .exit)) (now (ss .exit)) (now (ms .exit)) (now (os .exit)) r) ≡ restPool (now (b .entry)) k j (entries (stateCount (now (b .entry))) (poolOf (now (cs .entry)) (now (ps .entry)) (now (ss .entry)) (now (ms .entry)) (now (os .entry)) n))) × (now (costs .exit) ≡ set (now (costs .entry)) j (firstEntry (stateCount (now (b .entry))) (poolOf (now (cs .entry)) (now (ps .entry)) (now (ss .entry)) (now (ms .entry)) (now (os .entry)) n) .cost)) × (now (plans .exit) ≡ written (now (plans .entry)) (j * stateCount (now (b .entry))) (stateCount (now (b .entry))) (firstEntry (stateCount (now (b .entry))) (poolOf (now (cs .entry)) (now (ps .entry)) (now (ss .entry)) (now (ms .entry)) (now (os .entry)) n) .plan)) ⌝ }
 {
     let s = z.s;
     let at = j * s;
@@ -245,6 +245,9 @@ fn list_one(
     let slot = os[0];
     costs[j] = cs[slot];
     pool::read_row(ps, slot, s, &mut plans[at..to]);
+    if j + 1 == k {
+        return n;
+    }
     split_first(
         b,
         z,

@@ -1,11 +1,15 @@
 -- The first candidate's cost and bytes are written to place j, and it is split.
 -- Assumes nothing.
 use mathlib.Core.Path.{_≡_, refl, sym, ap, _∙_, subst}
+use mathlib.Core.Bool.{Bool, cond}
 use mathlib.Core.List.{List}
 use Prim.Native.Nat.{ℕ, _+_, _*_, _-_, _≤_, _<_}
 use native.Mathlib.Nat.{mul-le-mul}
 use native.Mathlib.Omega.{arith}
 use lib.ListN.{length, set, getD, take, drop, length-set}
+use mir.Syntax.{w64}
+use mir.Val.{toZ, ofZ}
+use borrow.Author.Tests.{eq-eqb, ne-eqb}
 use borrow.Rule.Slice.PartMut.{putMid}
 use Rattle.model.specs.Model.{Words, stateCount}
 use Rattle.accepted.specs.Facts.{accepted}
@@ -15,8 +19,9 @@ use Rattle.stored.specs.Entry.{Entry}
 use Rattle.stored.specs.Children.{plan-model}
 use Rattle.value.proofs.Bytes.{policy-long}
 use Rattle.pool.specs.declared.Pool.{Pool}
-use Rattle.pool.specs.Entries.{poolOf, firstEntry}
+use Rattle.pool.specs.Entries.{poolOf, entries, firstEntry}
 use Rattle.pool.proofs.Moves.{slot-low}
+use Rattle.engine.specs.Engine.{splitPool}
 use Rattle.engine.proofs.First.{cost-read}
 use Rattle.engine.proofs.Parts.{part-long, put-long, put-is, put-read}
 use borrow.Author.Needs.{needs}
@@ -114,6 +119,39 @@ module _ {ys : List ℕ} (s : tie.Start) (e : ys ≡ firstEntry (s .args .z .s) 
 abbrev from : tie.After-read-row → tie.Start
 from r = r .before .before .before .before .before .before
 
+-- what is written
+listed-cost : (s : tie.Start) → set (s .args .costs .now) (s .args .j) (toZ w64 (ofZ w64 (first s .cost))) ≡ set (s .args .costs .now) (s .args .j) (first s .cost)
+listed-cost s =
+    ap (set (s .args .costs .now) (s .args .j)) (cost-read (ws s) (s .args .z) (s .args .x .now) (s .args .nx .now) (s .args .q .now) (s .args .best .now) (s .pre .0) (first s) (s .pre .3) refl)
+
+abbrev waiting : tie.Start → List Entry
+waiting s = entries (stateCount (ws s)) (pool s)
+
+add-if1 : tie.Need-add-if1
+add-if1 c =
+    let s = from (c .before .before) in
+    omega (arith, s .pre .4, s .pre .1 .k-high)
+
+same-length : tie.Need-same-length
+same-length c =
+    let s = from (c .before .before .before) in
+    length-set (s .args .costs .now) (s .args .j) _
+
+same-length-2 : tie.Need-same-length-2
+same-length-2 c =
+    let r = c .before .before .before in
+    rows-long (from r) (r .read-row .ensures)
+
+returns : tie.Need-returns
+returns c =
+    let r = c .before .before .before in
+    let s = from r in (
+      s .pre .1,
+      sym (ap (λ (t : Bool). cond t (waiting s) (splitPool (ws s) (s .args .k) (waiting s))) (eq-eqb (s .args .j + 1) (s .args .k) (c .if1 .taken))),
+      listed-cost s,
+      rows-are s (r .read-row .ensures),
+    )
+
 sub-split-first : tie.Need-sub-split-first
 sub-split-first c = omega arith
 
@@ -122,33 +160,34 @@ part-split-first-start c = omega arith
 
 part-split-first-end : tie.Need-part-split-first-end
 part-split-first-end c =
-    let r = c .before .before .before .before .before .before .before .before in
+    let r = c .before .before .before .before .before .before .before .before .before in
     omega (arith, room (from r), rows-long (from r) (r .read-row .ensures))
 
 split-first-requires : tie.Need-split-first-requires
 split-first-requires c κs =
-    let r = c .before .before .before .before .before .before .before .before .before in
+    let r = c .before .before .before .before .before .before .before .before .before .before in
     let h = from r .pre in
     (h .0, h .1, h .2, h .3, rows-read (from r) (r .read-row .ensures))
 
-same-length : tie.Need-same-length
-same-length c =
-    let s = from (c .before .before .before .before .before .before .before .before .before .before) in
+same-length-3 : tie.Need-same-length-3
+same-length-3 c =
+    let s = from (c .before .before .before .before .before .before .before .before .before .before .before) in
     length-set (s .args .costs .now) (s .args .j) _
 
-same-length-2 : tie.Need-same-length-2
-same-length-2 c =
-    let r = c .before .before .before .before .before .before .before .before .before .before in
+same-length-4 : tie.Need-same-length-4
+same-length-4 c =
+    let r = c .before .before .before .before .before .before .before .before .before .before .before in
     rows-long (from r) (r .read-row .ensures)
 
-returns : tie.Need-returns
-returns c =
-    let r = c .before .before .before .before .before .before .before .before .before .before in
+returns-2 : tie.Need-returns-2
+returns-2 c =
+    let e = c .before .before .before .before .before .before .before .before in
+    let r = e .before .before .before in
     let s = from r in (
       c .split-first .ensures .0,
-      c .split-first .ensures .1,
-      ap (set (s .args .costs .now) (s .args .j))
-          (cost-read (ws s) (s .args .z) (s .args .x .now) (s .args .nx .now) (s .args .q .now) (s .args .best .now) (s .pre .0) (first s) (s .pre .3) refl),
+      c .split-first .ensures .1
+          ∙ sym (ap (λ (t : Bool). cond t (waiting s) (splitPool (ws s) (s .args .k) (waiting s))) (ne-eqb (s .args .j + 1) (s .args .k) (e .if1 .left))),
+      listed-cost s,
       rows-are s (r .read-row .ensures),
     )
 
@@ -167,10 +206,14 @@ list-one-spec =
     part-read-row-start
     part-read-row-end
     read-row-requires
+    add-if1
+    same-length
+    same-length-2
+    returns
     sub-split-first
     part-split-first-start
     part-split-first-end
     split-first-requires
-    same-length
-    same-length-2
-    returns)
+    same-length-3
+    same-length-4
+    returns-2)
