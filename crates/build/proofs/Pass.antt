@@ -22,7 +22,7 @@ use Rattle.build.specs.Walk.{walkBy, Stepped}
 
 module _ (ws : Words) (ok : bookNumber ws ≡ 0) (s reach : ℕ) where
   -- 255 stands for no action, so there is no next state
-  bare : (qs : List ℕ) → SetOf reach qs → SetOf reach (onward (action ws) s 255 qs)
+  pub bare : (qs : List ℕ) → SetOf reach qs → SetOf reach (onward (action ws) s 255 qs)
   bare qs h = rw (shape ws ok .bare s) h
 
   pub step-outside : (a : ℕ) → holds reach s ≡ false → Stepped (action ws) s a 255 reach reach
@@ -55,11 +55,6 @@ module _ (ws : Words) (choose : ℕ → ℕ) where
     pub reach : List ℕ
     pub set-is : SetOf set reach
     pub rest : walk (stateCount ws) 0 (0 ∷ []) ≡ take s out ++ walk (stateCount ws - s) s reach
-
-  pub begin : (out : Policy) → length out ≡ stateCount ws → Pass 0 1 out
-  begin out e =
-      let z : stateCount ws - 0 ≡ stateCount ws = omega arith in
-      record { long = e; reach = 0 ∷ []; set-is = first-set; rest = rw z }
 
   module _ (s set : ℕ) (out : Policy) (h : Pass s set out) where
     pub finish : stateCount ws ≤ s → out ≡ walk (stateCount ws) 0 (0 ∷ [])

@@ -3,12 +3,12 @@
 use mathlib.Core.Path.{_≡_}
 use mathlib.Core.Bool.{cond}
 use mathlib.Core.Logic.{_⊎_}
-use mathlib.Core.List.{List, [], _∷_}
-use Prim.Native.Nat.{ℕ, zero, suc, _<_}
+use mathlib.Core.List.{List, [], _∷_, _++_}
+use Prim.Native.Nat.{ℕ, zero, suc, _-_, _<_}
 use lib.Dec.{eqb, ltb}
-use lib.ListN.{length}
+use lib.ListN.{length, take, drop}
 use Rattle.model.specs.Lists.{isIn}
-use Rattle.model.specs.Model.{Words, Action, actionCount}
+use Rattle.model.specs.Model.{Words, Action, stateCount, actionCount, action}
 use Rattle.model.specs.Policy.{Policy, onward}
 use Rattle.model.specs.Path.{byteAt}
 use Rattle.laws.specs.Greedy.{byteOf}
@@ -30,11 +30,34 @@ splitBy f r c g s = cond (ltb s r) (f s) (cond (eqb s r) c (g s))
 abbrev pub chosen : Words → Policy → ℕ → ℕ → ℕ → ℕ
 chosen ws bs r c = splitBy (byteAt bs) r c (bestAt ws)
 
--- each byte before state r is there, and is an action of its state or 255
+-- the byte of state s is there, and is an action of the state or 255
+abbrev pub ActionOrNone : Words → Policy → ℕ → Type 0
+ActionOrNone ws bs s = (s < length bs) × ((byteAt bs s ≡ 255) ⊎ (byteAt bs s < actionCount ws s))
+
+-- each byte before state r is
 abbrev pub Usable : Words → Policy → ℕ → Type 0
-Usable ws bs r = (s : ℕ) → s < r → (s < length bs) × ((byteAt bs s ≡ 255) ⊎ (byteAt bs s < actionCount ws s))
+Usable ws bs r = (s : ℕ) → s < r → ActionOrNone ws bs s
 
 -- of state s, whose action is a: its byte, and the set of states known to be reached before and after its next states are among them
 pub record Stepped (act : ℕ → ℕ → Action) (s a byte before after : ℕ) : Type 0 where
   pub byte-is : byte ≡ byteOf (holds before s) a
   pub reached : (qs : List ℕ) → SetOf before qs → SetOf after (onward act s byte qs)
+
+-- the set of the states that the first s bytes of bs reach: whoever acts by these bytes walks over the other states from there
+pub record Walked (ws : Words) (bs : Policy) (s set : ℕ) : Type 0 where
+  pub reach : List ℕ
+  pub set-is : SetOf set reach
+  pub rest : (f : ℕ → ℕ) → ((p : ℕ) → p < s → f p ≡ byteAt bs p)
+      → walkBy (action ws) f (stateCount ws) 0 (0 ∷ []) ≡ take s bs ++ walkBy (action ws) f (stateCount ws - s) s reach
+
+-- the bytes of a walk
+pub record Own (ws : Words) (bs : Policy) : Type 0 where
+  pub by : ℕ → ℕ
+  pub own : bs ≡ walkBy (action ws) by (stateCount ws) 0 (0 ∷ [])
+
+-- the first s states of the walk bs are passed
+pub record Passed (ws : Words) (bs : Policy) (s set : ℕ) : Type 0 where
+  pub walked : Walked ws bs s set
+  pub long : length bs ≡ stateCount ws
+  pub by : ℕ → ℕ
+  pub left : drop s bs ≡ walkBy (action ws) by (stateCount ws - s) s (walked .reach)

@@ -1,16 +1,16 @@
 // The bytes of a policy that keeps to another's bytes before one state, takes a given action there, and first best actions after it.
 use book::Sizes;
 ghost use mathlib.Core.Path.{_≡_};
-ghost use mathlib.Core.List.{[], _∷_};
-ghost use Prim.Native.Nat.{_<_};
-ghost use lib.ListN.{length, getD};
+ghost use mathlib.Core.List.{[], _∷_, _++_};
+ghost use Prim.Native.Nat.{_+_, _<_, _≤_};
+ghost use lib.ListN.{length, getD, take, drop};
 ghost use Rattle.model.specs.Model.{stateCount, actionCount, action};
 ghost use Rattle.model.specs.Questions.{bookNumber};
 ghost use Rattle.model.specs.Path.{byteAt};
 ghost use Rattle.book.specs.Read.{SizesAre};
 ghost use Rattle.nexts.specs.Nexts.{NextsOf};
 ghost use Rattle.build.specs.Best.{RowsOf, BestOf};
-ghost use Rattle.build.specs.Walk.{walkBy, splitBy, chosen, Usable, Stepped};
+ghost use Rattle.build.specs.Walk.{walkBy, splitBy, chosen, ActionOrNone, Usable, Stepped, Walked, Own, Passed};
 
 fn zeros() -> [usize; 64]
     ensures { λ r. ⌜ length r ≡ 64 ⌝ }
@@ -58,7 +58,7 @@ pub struct Stepping {
 // State s has its action if it is among the states known to be reached, else 255.
 fn step(
     b: &[i32],
-    t: &[u64; 512],
+    nx: &[u64; 512],
     best: &[usize; 64],
     plan: &[u8],
     r: usize,
@@ -66,7 +66,7 @@ fn step(
     s: usize,
     reach: u64,
 ) -> Stepping
-    requires { ⌜ (bookNumber (now b) ≡ 0) × NextsOf (now b) (now t) × BestOf (now b) (now best) × Usable (now b) (now plan) r × (c < actionCount (now b) r) × (s < stateCount (now b)) ⌝ }
+    requires { ⌜ (bookNumber (now b) ≡ 0) × NextsOf (now b) (now nx) × BestOf (now b) (now best) × Usable (now b) (now plan) r × (c < actionCount (now b) r) × (s < stateCount (now b)) ⌝ }
     ensures { λ a. ⌜ Stepped (action (now (b .entry))) s (chosen (now (b .entry)) (now (plan .entry)) r c s) (a .byte) reach (a .reach) ⌝ }
 {
     if !sets::in_set(reach, s as u64) {
@@ -82,30 +82,72 @@ fn step(
             reach: reach,
         };
     }
-    let more = t[8 * s + a];
+    let more = nx[8 * s + a];
     Stepping {
         byte: a as u8,
         reach: sets::join(more, reach),
     }
 }
 
-// The bytes of the policy that has those of `plan` before state r, takes action c at r and first best actions after it.
+// The states that are reached once those of the byte of `plan` at state s are among them.
+pub fn pass_state(b: &[i32], nx: &[u64; 512], plan: &[u8], s: usize, reach: u64) -> u64
+    requires { ⌜ (bookNumber (now b) ≡ 0) × NextsOf (now b) (now nx) × (s < stateCount (now b)) × ActionOrNone (now b) (now plan) s × Passed (now b) (now plan) s reach ⌝ }
+    ensures { λ r. ⌜ Passed (now (b .entry)) (now (plan .entry)) (s + 1) r ⌝ }
+{
+    let a = plan[s] as usize;
+    if a == 255 {
+        return reach;
+    }
+    let more = nx[8 * s + a];
+    sets::join(more, reach)
+}
+
+// The states that the bytes of `plan` before state r reach.
+pub fn reached_before(b: &[i32], nx: &[u64; 512], plan: &[u8], r: usize) -> u64
+    requires { ⌜ (bookNumber (now b) ≡ 0) × NextsOf (now b) (now nx) × (r ≤ stateCount (now b)) × Own (now b) (now plan) × Usable (now b) (now plan) r ⌝ }
+    ensures { λ m. ⌜ Passed (now (b .entry)) (now (plan .entry)) r m ⌝ }
+{
+    let mut reach: u64 = 1;
+    let mut s: usize = 0;
+    while s < r {
+        reach = pass_state(b, nx, plan, s, reach);
+        s = s + 1;
+    }
+    reach
+}
+
+// The bytes of `plan` before state r.
+fn copy_before(plan: &[u8], r: usize, out: &mut [u8])
+    requires { ⌜ (r ≤ length (now plan)) × (r ≤ length (now out)) ⌝ }
+    ensures { λ _. ⌜ now (out .exit) ≡ take r (now (plan .entry)) ++ drop r (now (out .entry)) ⌝ }
+{
+    let mut i: usize = 0;
+    while i < r {
+        out[i] = plan[i];
+        i = i + 1;
+    }
+}
+
+// The bytes of the policy that has those of `plan` before state r, takes action c at r and first best actions after it. `from` is the set of the states
+// that the bytes before r reach.
 pub fn build(
     b: &[i32],
-    t: &[u64; 512],
+    nx: &[u64; 512],
     best: &[usize; 64],
     plan: &[u8],
     r: usize,
     c: usize,
+    from: u64,
     out: &mut [u8],
 )
-    requires { ⌜ (bookNumber (now b) ≡ 0) × NextsOf (now b) (now t) × BestOf (now b) (now best) × Usable (now b) (now plan) r × (r < stateCount (now b)) × (c < actionCount (now b) r) × (length (now out) ≡ stateCount (now b)) ⌝ }
+    requires { ⌜ (bookNumber (now b) ≡ 0) × NextsOf (now b) (now nx) × BestOf (now b) (now best) × Usable (now b) (now plan) r × (r < stateCount (now b)) × (c < actionCount (now b) r) × Walked (now b) (now plan) r from × (length (now out) ≡ stateCount (now b)) ⌝ }
     ensures { λ _. ⌜ now (out .exit) ≡ walkBy (action (now (b .entry))) (chosen (now (b .entry)) (now (plan .entry)) r c) (stateCount (now (b .entry))) 0 (0 ∷ []) ⌝ }
 {
-    let mut reach: u64 = 1;
-    let mut s: usize = 0;
+    copy_before(plan, r, out);
+    let mut reach = from;
+    let mut s = r;
     while s < out.len() {
-        let a = step(b, t, best, plan, r, c, s, reach);
+        let a = step(b, nx, best, plan, r, c, s, reach);
         out[s] = a.byte;
         reach = a.reach;
         s = s + 1;

@@ -2,41 +2,47 @@
 -- Assumes nothing.
 use mathlib.Core.Path.{_≡_, sym, ap, _∙_, subst}
 use mathlib.Core.Bool.{Bool, true, false, cond}
+use mathlib.Core.Logic.{inl}
 use mathlib.Core.List.{List, [], _∷_}
 use Prim.Native.Nat.{ℕ, zero, suc, _+_, _≤_, _<_}
 use native.Mathlib.Omega.{arith}
+use borrow.Author.Tests.{eq-eqb, ne-eqb}
 use lib.Dec.{lit<}
 use mir.Syntax.{w64}
 use mir.Val.{SFits}
 use lib.IntN.{ℤ, pos, natAbs, _+ℤ_, _-ℤ_, _*ℤ_}
 use lib.ListN.{length, getD, take}
 use Rattle.model.specs.Lists.{insert}
+use Rattle.model.specs.Questions.{bookNumber}
+use Rattle.build.specs.Best.{RowsOf}
 use Rattle.model.specs.Model.{Words, scale, stateCount, togo, actionCount, action, options}
+use Rattle.model.specs.Policy.{Policy}
 use Rattle.model.specs.Path.{byteAt, taken}
-use Rattle.model.specs.Recursion.{through}
+use Rattle.model.specs.Recursion.{bestOf, through}
 use Rattle.laws.specs.Members.{Every, every-in}
 use Rattle.accepted.specs.Facts.{accepted}
 use Rattle.accepted.specs.Shape.{togo-start}
 use Rattle.accepted.specs.Demands.{to-go-fits}
 use Rattle.book.proofs.Words.{fits64}
-use Rattle.book.specs.declared.Sizes.{Sizes}
 use Rattle.table.specs.Table.{rowOf}
 use Rattle.masks.specs.Masks.{has, free}
-use Rattle.build.specs.Walk.{walkBy, chosen}
+use Rattle.build.specs.Walk.{walkBy, chosen, Own, ActionOrNone}
+use Rattle.build.proofs.Walk.{walk-greedy}
 use Rattle.reach.specs.Weights.{WeightsOf}
-use Rattle.value.proofs.Bytes.{byte-is, policy-long}
+use Rattle.value.proofs.Bytes.{byte-is, policy-long, byte-cases}
 use Rattle.splits.specs.Parts.{Reaches}
 use Rattle.stored.specs.Entry.{Entry, earlierEntry}
 use Rattle.pool.specs.declared.Pool.{Pool}
 use Rattle.pool.specs.Entries.{entries, Inserted}
-use Rattle.stored.specs.Lists.{left}
+use Rattle.stored.specs.Lists.{left, listsOf}
 use Rattle.stored.specs.Children.{Right, maskAt, childEntry, plan-model, child-right}
 use Rattle.stored.specs.Costs.{cost-moves}
 use Rattle.child.specs.Move.{Movable}
 use Rattle.child.proofs.Moves.{movable}
 use Rattle.child.proofs.Plans.{child-plan}
 use Rattle.child.proofs.Splits.{reaches-here}
-use Rattle.engine.specs.Engine.{Ready, ChildAt, childOf}
+use Rattle.engine.specs.Engine.{ChildAt, childOf, joined, joinedIf, admitted, ChildIs}
+use Rattle.engine.specs.declared.Child.{Child}
 
 -- the actions that a set leaves are actions
 pub free-under : (n mask i m : ℕ) → i + m ≤ n → Every (λ c. c < n) (free mask i m)
@@ -61,58 +67,60 @@ pub record Facts (ws : Words) (q : List ℤ) (e : Entry) (w : List ℕ) (p c f :
   pub child-long : length (childEntry ws e p .plan) ≡ stateCount ws
   pub child-fits : SFits w64 (childEntry ws e p .cost)
 
-module _ (ws : Words) (z : Sizes) (x nx : List ℕ) (q : List ℤ) (best : List ℕ) (rd : Ready ws z x nx q best) (e : Entry) (ri : Right ws e) where
+module _ (ws : Words) (ok : bookNumber ws ≡ 0) (q : List ℤ) (rows : RowsOf ws q) (e : Entry) (ri : Right ws e) where
   pub in-plan : (p : ℕ) → p < stateCount ws → p < length (e .plan)
-  in-plan p h = omega (arith, policy-long ws (rd .ok) (e .plan) (plan-model ws (rd .ok) e ri) p h)
+  in-plan p h = omega (arith, policy-long ws ok (e .plan) (plan-model ws ok e ri) p h)
 
   pub fits : (d : Entry) → Right ws d → SFits w64 (d .cost)
   unfolding taken
   fits d r =
       fits64 4000000000000000000 (d .cost)
-      (subst (λ (z : ℤ). natAbs z ≤ 4000000000000000000) (sym (r .cost-is)) (to-go-fits ws (rd .ok) (d .plan) (togo ws 0) 0 (omega (arith, togo-start ws (rd .ok))))) (lit< tt)
+      (subst (λ (z : ℤ). natAbs z ≤ 4000000000000000000) (sym (r .cost-is))
+      (to-go-fits ws ok (d .plan) (togo ws 0) 0 (omega (arith, togo-start ws ok)))) (lit< tt)
 
   module _ (w : List ℕ) (wo : WeightsOf ws (e .plan) w) (p c mask : ℕ) (ch : ChildAt ws e p c mask) where
     abbrev row : ℕ → ℤ
     row = through (scale ws) (action ws) (options ws) (togo ws p) p
 
     p-small : p < 64
-    p-small = omega (arith, ch .state, accepted ws (rd .ok) .sizes .s-high)
+    p-small = omega (arith, ch .state, accepted ws ok .sizes .s-high)
 
     own-small : byteAt (e .plan) p < 8
-    own-small = omega (arith, ch .own, accepted ws (rd .ok) .counts-high p (ch .state))
+    own-small = omega (arith, ch .own, accepted ws ok .counts-high p (ch .state))
 
     c-action : c < actionCount ws p
-    c-action = every-in (λ d. d < actionCount ws p) (left ws p (maskAt e p)) (free-under (actionCount ws p) (maskAt e p) 0 (actionCount ws p) (omega arith)) c (ch .some)
+    c-action = every-in (λ d. d < actionCount ws p) (left ws p (maskAt e p))
+        (free-under (actionCount ws p) (maskAt e p) 0 (actionCount ws p) (omega arith)) c (ch .some)
 
     c-small : c < 8
-    c-small = omega (arith, c-action, accepted ws (rd .ok) .counts-high p (ch .state))
+    c-small = omega (arith, c-action, accepted ws ok .counts-high p (ch .state))
 
     here : Reaches (action ws) p 0 (0 ∷ []) (e .plan)
-    here = reaches-here ws (rd .ok) e ri p (ch .state) (ch .from) (λ b. omega (arith, b, own-small))
+    here = reaches-here ws ok e ri p (ch .state) (ch .from) (λ b. omega (arith, b, own-small))
 
     row-is : (d : ℕ) → d < actionCount ws p → rowOf q p d ≡ row d
-    row-is d h = rd .rows .through-is p d (ch .state) h
+    row-is d h = rows .through-is p d (ch .state) h
 
     moves : Movable (e .cost) (getD w p 0) (rowOf q p c) (rowOf q p (byteAt (e .plan) p))
     moves =
         rw (wo .at p (ch .state), row-is c c-action, row-is (byteAt (e .plan) p) (ch .own), ch .next)
-        (movable ws (rd .ok) e ri p (ch .state) (ch .from) own-small here (c, ch .some))
+        (movable ws ok e ri p (ch .state) (ch .from) own-small here (c, ch .some))
 
     plan-is : walkBy (action ws) (chosen ws (e .plan) p c) (stateCount ws) 0 (0 ∷ []) ≡ childEntry ws e p .plan
     plan-is =
         ap (λ (d : ℕ). walkBy (action ws) (chosen ws (e .plan) p d) (stateCount ws) 0 (0 ∷ [])) (ch .next)
-        ∙ child-plan ws (rd .ok) e ri p (ch .state) (ch .from) own-small
+        ∙ child-plan ws ok e ri p (ch .state) (ch .from) own-small
 
     cost-is : e .cost +ℤ pos (getD w p 0) *ℤ (rowOf q p c -ℤ rowOf q p (byteAt (e .plan) p)) ≡ childEntry ws e p .cost
     cost-is =
         rw (wo .at p (ch .state), row-is c c-action, row-is (byteAt (e .plan) p) (ch .own), ch .next)
-        (sym (cost-moves ws (rd .ok) e ri p (ch .state) (ch .from) own-small here (c, ch .some)))
+        (sym (cost-moves ws ok e ri p (ch .state) (ch .from) own-small here (c, ch .some)))
 
     child-right′ : Right ws (childEntry ws e p)
-    child-right′ = child-right ws (rd .ok) e ri p (ch .state) (ch .from) own-small here (c, ch .some)
+    child-right′ = child-right ws ok e ri p (ch .state) (ch .from) own-small here (c, ch .some)
 
     child-long : length (childEntry ws e p .plan) ≡ stateCount ws
-    child-long = policy-long ws (rd .ok) (childEntry ws e p .plan) (plan-model ws (rd .ok) (childEntry ws e p) child-right′) p (ch .state)
+    child-long = policy-long ws ok (childEntry ws e p .plan) (plan-model ws ok (childEntry ws e p) child-right′) p (ch .state)
 
     pub facts : Facts ws q e w p c (getD (e .plan) p 0)
     facts =
@@ -132,13 +140,42 @@ module _ (ws : Words) (z : Sizes) (x nx : List ℕ) (q : List ℤ) (best : List 
         }
 
 -- an entry that joins the pool, by what is equal to its parts
-pub added : {s k : ℕ} {x : ℤ} {bs : List ℕ} {p a : ℕ} {P r : Pool} (S : ℕ) (e : Entry) → s ≡ S → x ≡ e .cost → bs ≡ e .plan → p ≡ e .split → a ≡ e .mask
+pub added : {s k : ℕ} {x : ℤ} {bs : List ℕ} {p a : ℕ} {P r : Pool} (S : ℕ) (e : Entry) → s ≡ S → x ≡ e .cost → bs ≡ e .plan → p ≡ e .split → a
+    ≡ e .mask
     → Inserted s k (record { cost = x; plan = bs; split = p; mask = a }) P r → entries S r ≡ take k (insert earlierEntry e (entries S P))
 added {s} {k} {x} {bs} {p} {a} {P} {r} S e hs hx hb hp ha i =
-    subst (λ (d : Entry). entries S r ≡ take k (insert earlierEntry d (entries S P))) (λ t. record { cost = hx t; plan = hb t; split = hp t; mask = ha t })
+    subst (λ (d : Entry). entries S r ≡ take k (insert earlierEntry d (entries S P)))
+    (λ t. record { cost = hx t; plan = hb t; split = hp t; mask = ha t })
     (subst (λ (n : ℕ). entries n r ≡ take k (insert earlierEntry (record { cost = x; plan = bs; split = p; mask = a }) (entries n P))) hs (i .kept))
 
 -- the child that is made is the child of e
-pub made-is : (ws : Words) (q : List ℤ) (e : Entry) (w : List ℕ) (p c f : ℕ) {x : ℤ} {m : ℕ} → Facts ws q e w p c f → x ≡ childEntry ws e p .cost → m ≡ maskAt e p
+pub made-is : (ws : Words) (q : List ℤ) (e : Entry) (w : List ℕ) (p c f : ℕ) {x : ℤ} {m : ℕ} → Facts ws q e w p c f → x ≡ childEntry ws e p .cost
+    → m ≡ maskAt e p
     → childOf ws (e .plan) p (record { cost = x; action = c; mask = m }) ≡ childEntry ws e p
 made-is ws q e w p c f h hx hm = λ t. record { cost = hx t; plan = h .plan-is t; split = p; mask = hm t }
+
+-- the bytes of a candidate are those of a walk, and each is an action or 255
+module _ (ws : Words) (ok : bookNumber ws ≡ 0) (e : Entry) (ri : Right ws e) where
+  pub own-walk : Own ws (e .plan)
+  own-walk =
+      record {
+        by = λ s. bestOf (through (scale ws) (action ws) (listsOf ws e) (togo ws s) s) (listsOf ws e s);
+        own = ri .plan-is ∙ walk-greedy (scale ws) (action ws) (listsOf ws e) (togo ws) (stateCount ws) 0 (0 ∷ []);
+      }
+
+  pub action-or-none : (p : ℕ) → p < stateCount ws → ActionOrNone ws (e .plan) p
+  action-or-none p h =
+      (omega (arith, policy-long ws ok (e .plan) (plan-model ws ok e ri) p h), byte-cases ws ok (e .plan) (plan-model ws ok e ri) p h)
+
+-- ---- a child, or none
+
+module _ (k : ℕ) (ws : Words) (bs : Policy) (p : ℕ) (d : Child) (es : List Entry) where
+  pub if-none : d .action ≡ 255 → joinedIf k ws bs p d es ≡ es
+  if-none h = ap (λ (t : Bool). cond t es (joined k (childOf ws bs p d) es)) (eq-eqb (d .action) 255 h)
+
+  pub if-some : (d .action ≡ 255 → ⊥) → joinedIf k ws bs p d es ≡ joined k (childOf ws bs p d) es
+  if-some h = ap (λ (t : Bool). cond t es (joined k (childOf ws bs p d) es)) (ne-eqb (d .action) 255 h)
+
+pub none-is : (ws : Words) (e : Entry) (p : ℕ) (d : Child) → d .action ≡ 255 → ((k : ℕ) (es : List Entry) → es ≡ admitted ws k e p es) → ChildIs ws
+    e p d
+none-is ws e p d h n = record { joins = λ k es. if-none k ws (e .plan) p d es h ∙ n k es; below = inl h }

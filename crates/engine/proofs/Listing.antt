@@ -106,7 +106,8 @@ module _ (ws : Words) (ok : bookNumber ws ≡ 0) (k : ℕ) where
         ap (λ (n : ℕ). runEntries ws k n es) z
 
     -- other entries of which the same is listed
-    swapped : (j : ℕ) (es es′ : List Entry) (costs : List ℤ) (plans : List ℕ) → runEntries ws k (k - j) es ≡ runEntries ws k (k - j) es′ → Every (Right ws) es′
+    swapped : (j : ℕ) (es es′ : List Entry) (costs : List ℤ) (plans : List ℕ) → runEntries ws k (k - j) es ≡ runEntries ws k (k - j) es′ → Every
+        (Right ws) es′
         → Listing ws k first costs₀ plans₀ j es costs plans → Listing ws k first costs₀ plans₀ j es′ costs plans
     swapped j es es′ costs plans e h l =
         record {
@@ -175,7 +176,8 @@ module _ (ws : Words) (ok : bookNumber ws ≡ 0) (k : ℕ) where
       pub first-right : Right ws (firstEntry S pool)
       first-right = subst (Every (Right ws)) (pool-first S pool formed some .1) (l .right) .0
 
-      pub pool-next : {es : List Entry} {cs : List ℤ} {ps : List ℕ} → j < k → k ≤ length costs₀ → k * S ≤ length plans₀ → es ≡ restPool ws k j (entries S pool)
+      pub pool-next : {es : List Entry} {cs : List ℤ} {ps : List ℕ} → j < k → k ≤ length costs₀ → k * S ≤ length plans₀ → es ≡ restPool ws k j
+          (entries S pool)
           → cs ≡ set costs j (firstEntry S pool .cost) → ps ≡ written plans (j * S) S (firstEntry S pool .plan)
           → Listing ws k first costs₀ plans₀ (j + 1) es cs ps
       pool-next {es} {cs} {ps} more c-room p-room he hc hp = go (ℕ-discrete (j + 1) k)
@@ -183,14 +185,17 @@ module _ (ws : Words) (ok : bookNumber ws ≡ 0) (k : ℕ) where
           split : Listing ws k first costs₀ plans₀ (j + 1) (splitPool ws k (entries S pool)) cs ps
           split =
               let f = pool-first S pool formed some in
-              next j (firstEntry S pool) (f .0) costs plans (subst (λ (es : List Entry). Listing ws k first costs₀ plans₀ j es costs plans) (f .1) l) more
-              (omega (arith, l .costs-long)) (omega (arith, l .plans-long′)) (splitPool ws k (entries S pool)) cs ps (ap (splitPool ws k) (f .1)) hc hp
+              next j (firstEntry S pool) (f .0) costs plans
+              (subst (λ (es : List Entry). Listing ws k first costs₀ plans₀ j es costs plans) (f .1) l) more
+              (omega (arith, l .costs-long)) (omega (arith, l .plans-long′)) (splitPool ws k (entries S pool)) cs ps (ap (splitPool ws k) (f .1)) hc
+              hp
 
           go : Dec (j + 1 ≡ k) → Listing ws k first costs₀ plans₀ (j + 1) es cs ps
           go (yes e) =
               let all : k ≤ j + 1 = omega arith in
               let same = he ∙ ap (λ (t : Bool). cond t (entries S pool) (splitPool ws k (entries S pool))) (eq-eqb (j + 1) k e) in
-              swapped (j + 1) (splitPool ws k (entries S pool)) es cs ps (done (j + 1) (splitPool ws k (entries S pool)) all ∙ sym (done (j + 1) es all))
+              swapped (j + 1) (splitPool ws k (entries S pool)) es cs ps
+              (done (j + 1) (splitPool ws k (entries S pool)) all ∙ sym (done (j + 1) es all))
               (subst (Every (Right ws)) (sym same) (l .right)) split
           go (no n) =
               let same = he ∙ ap (λ (t : Bool). cond t (entries S pool) (splitPool ws k (entries S pool))) (ne-eqb (j + 1) k n) in

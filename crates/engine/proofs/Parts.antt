@@ -1,17 +1,12 @@
 -- A part of a slice that is written and then read.
 -- Assumes nothing.
-use mathlib.Core.Path.{_≡_, refl, sym, ap, _∙_}
+use mathlib.Core.Path.{_≡_, sym, ap, _∙_}
 use mathlib.Core.List.{List, _++_, append-assoc}
-use Prim.Native.Nat.{ℕ, zero, suc, _+_, _-_, _≤_}
+use Prim.Native.Nat.{ℕ, _+_, _-_, _≤_}
 use native.Mathlib.Omega.{arith}
 use lib.ListN.{length, take, drop, length-drop, length-append}
 use lib.Seq.{length-take-le, take-at, drop-at}
 use borrow.Rule.Slice.PartMut.{putMid, same-len-mid, post-is}
-use Rattle.model.specs.Lists.{isIn}
-use Rattle.model.specs.Model.{Action}
-use Rattle.model.specs.Policy.{onward}
-use Rattle.laws.specs.Greedy.{byteOf}
-use Rattle.build.specs.Walk.{walkBy}
 use Rattle.bytes_io.specs.Slices.{written}
 
 module _ (o : List ℕ) (a s S : ℕ) (same : s ≡ S) (room : a + s ≤ length o) where
@@ -47,8 +42,3 @@ module _ {o : List ℕ} (n : ℕ) (rest bs : List ℕ) (e : o ≡ bs) (long : le
 
   pub front-long : length (take n (o ++ rest)) ≡ n
   front-long = ap length (take-at o rest n same-long) ∙ same-long
-
--- a walk has a byte for each state
-pub walk-long : (act : ℕ → ℕ → Action) (f : ℕ → ℕ) (n p : ℕ) (reach : List ℕ) → length (walkBy act f n p reach) ≡ n
-walk-long act f zero p reach = refl
-walk-long act f (suc n) p reach = ap suc (walk-long act f n (suc p) (onward act p (byteOf (isIn p reach) (f p)) reach))

@@ -41,6 +41,7 @@ module _ (ws : Words) (ok : bookNumber ws ≡ 0) where
 
 -- the one entry of a pool, by what is equal to its parts
 pub first-alone : {s : ℕ} {x : ℤ} {bs : List ℕ} (P : Pool) (S : ℕ) (e : Entry) → s ≡ S → x ≡ e .cost → bs ≡ e .plan
-    → entries s P ≡ record { cost = x; plan = bs; split = 0; mask = 0 } ∷ [] → entries S P ≡ record { cost = e .cost; plan = e .plan; split = 0; mask = 0 } ∷ []
+    → entries s P ≡ record { cost = x; plan = bs; split = 0; mask = 0 } ∷ [] → entries S P ≡ record
+    { cost = e .cost; plan = e .plan; split = 0; mask = 0 } ∷ []
 first-alone {s} {x} {bs} P S e hs hx hb h =
     ap (λ (n : ℕ). entries n P) (sym hs) ∙ h ∙ λ t. record { cost = hx t; plan = hb t; split = 0; mask = 0 } ∷ []

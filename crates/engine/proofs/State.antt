@@ -8,12 +8,13 @@ use native.Mathlib.Omega.{arith}
 use lib.Dec.{eqb}
 use lib.IntN.{ℤ}
 use lib.ListN.{getD}
+use Rattle.model.specs.Questions.{bookNumber}
+use Rattle.build.specs.Best.{RowsOf}
 use Rattle.model.specs.Model.{Words, scale, stateCount, togo, actionCount, action, options}
 use Rattle.model.specs.Path.{byteAt}
 use Rattle.model.specs.Recursion.{bestOf, through}
 use Rattle.laws.specs.Members.{every-imp}
 use Rattle.accepted.specs.Facts.{accepted}
-use Rattle.book.specs.declared.Sizes.{Sizes}
 use Rattle.table.specs.Table.{rowOf}
 use Rattle.table.proofs.Better.{best-same}
 use Rattle.masks.specs.Masks.{with, free}
@@ -24,32 +25,32 @@ use Rattle.stored.specs.Lists.{left}
 use Rattle.stored.specs.Children.{Right, maskAt, childEntry}
 use Rattle.stored.specs.Runs.{itself}
 use Rattle.child.proofs.Splits.{none-unreached, none-left, own-action, own-small, one-child}
-use Rattle.engine.specs.Engine.{Ready, ChildAt, joined, admitted}
+use Rattle.engine.specs.Engine.{ChildAt, joined, admitted}
 use Rattle.engine.proofs.Children.{free-under, in-plan}
 
-module _ (ws : Words) (z : Sizes) (x nx : List ℕ) (q : List ℤ) (best : List ℕ) (rd : Ready ws z x nx q best) (e : Entry) (ri : Right ws e) (p : ℕ)
+module _ (ws : Words) (ok : bookNumber ws ≡ 0) (q : List ℤ) (rows : RowsOf ws q) (e : Entry) (ri : Right ws e) (p : ℕ)
     (from : e .split ≤ p) (state : p < stateCount ws) (k : ℕ) (es : List Entry) where
   abbrev f : ℕ
   f = getD (e .plan) p 0
 
   pub byte : f ≡ byteAt (e .plan) p
-  byte = byte-is (e .plan) p 0 255 (in-plan ws z x nx q best rd e ri p state)
+  byte = byte-is (e .plan) p 0 255 (in-plan ws ok q rows e ri p state)
 
   pub below-64 : p < 64
-  below-64 = omega (arith, state, accepted ws (rd .ok) .sizes .s-high)
+  below-64 = omega (arith, state, accepted ws ok .sizes .s-high)
 
   pub few-actions : actionCount ws p ≤ 8
-  few-actions = accepted ws (rd .ok) .counts-high p state
+  few-actions = accepted ws ok .counts-high p state
 
   pub unreached : f ≡ 255 → es ≡ admitted ws k e p es
-  unreached h = sym (ap (λ (cs : List Entry). admit earlierEntry itself k cs es) (none-unreached ws (rd .ok) e ri p state from (sym byte ∙ h)))
+  unreached h = sym (ap (λ (cs : List Entry). admit earlierEntry itself k cs es) (none-unreached ws ok e ri p state from (sym byte ∙ h)))
 
   module _ (other : f ≡ 255 → ⊥) where
     other′ : byteAt (e .plan) p ≡ 255 → ⊥
     other′ h = other (byte ∙ h)
 
     pub small : f < 8
-    small = omega (arith, byte, own-small ws (rd .ok) e ri p state from other′)
+    small = omega (arith, byte, own-small ws ok e ri p state from other′)
 
     module _ (m n r : ℕ) (mask-is : m ≡ with (cond (eqb p (e .split)) (e .mask) 0) f) (n-is : n ≡ actionCount ws p)
         (r-is : r ≡ bestOf (rowOf q p) (free m 0 n)) where
@@ -63,10 +64,11 @@ module _ (ws : Words) (z : Sizes) (x nx : List ℕ) (q : List ℤ) (best : List 
       next =
           r-is ∙ ap (λ (n : ℕ). bestOf (rowOf q p) (free m 0 n)) n-is ∙ ap (λ (m : ℕ). bestOf (rowOf q p) (free m 0 (actionCount ws p))) mask-at
           ∙ best-same (rowOf q p) cost (left ws p (maskAt e p))
-          (every-imp (λ c h. rd .rows .through-is p c state h) (left ws p (maskAt e p)) (free-under (actionCount ws p) (maskAt e p) 0 (actionCount ws p) (omega arith)))
+          (every-imp (λ c h. rows .through-is p c state h) (left ws p (maskAt e p))
+          (free-under (actionCount ws p) (maskAt e p) 0 (actionCount ws p) (omega arith)))
 
       pub none : r ≡ 255 → es ≡ admitted ws k e p es
-      none h = sym (ap (λ (cs : List Entry). admit earlierEntry itself k cs es) (none-left ws (rd .ok) e ri p state from cost (sym next ∙ h)))
+      none h = sym (ap (λ (cs : List Entry). admit earlierEntry itself k cs es) (none-left ws ok e ri p state from cost (sym next ∙ h)))
 
       module _ (some : r ≡ 255 → ⊥) where
         pub child-at : ChildAt ws e p r m
@@ -74,11 +76,11 @@ module _ (ws : Words) (z : Sizes) (x nx : List ℕ) (q : List ℤ) (best : List 
             record {
               state = state;
               from = from;
-              own = own-action ws (rd .ok) e ri p state from other′;
+              own = own-action ws ok e ri p state from other′;
               mask-is = mask-at;
               next = next;
-              some = one-child ws (rd .ok) e ri p state from other′ cost r next some .0;
+              some = one-child ws ok e ri p state from other′ cost r next some .0;
             }
 
         pub one : joined k (childEntry ws e p) es ≡ admitted ws k e p es
-        one = sym (ap (λ (cs : List Entry). admit earlierEntry itself k cs es) (one-child ws (rd .ok) e ri p state from other′ cost r next some .1))
+        one = sym (ap (λ (cs : List Entry). admit earlierEntry itself k cs es) (one-child ws ok e ri p state from other′ cost r next some .1))

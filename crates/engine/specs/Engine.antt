@@ -2,6 +2,7 @@
 -- Assumes nothing.
 use mathlib.Core.Path.{_≡_}
 use mathlib.Core.Bool.{cond}
+use mathlib.Core.Logic.{_⊎_}
 use mathlib.Core.List.{List, [], _∷_, map}
 use Prim.Native.Nat.{ℕ, _+_, _-_, _≤_, _<_}
 use lib.IntN.{ℤ}
@@ -79,6 +80,15 @@ joined k d es = take k (insert earlierEntry d es)
 -- the entries after the child of e at state p joined them, if there is one
 abbrev pub admitted : Words → ℕ → Entry → ℕ → List Entry → List Entry
 admitted ws k e p es = admit earlierEntry itself k (addIf (splitsAt e p) (left ws p (maskAt e p)) (childEntry ws e p) []) es
+
+-- the entries after d joined them, if it is a child: the action 255 stands for none
+abbrev pub joinedIf : ℕ → Words → Policy → ℕ → Child → List Entry → List Entry
+joinedIf k ws bs p d es = cond (eqb (d .action) 255) es (joined k (childOf ws bs p d) es)
+
+-- d is the child of e at state p, or none where there is none
+pub record ChildIs (ws : Words) (e : Entry) (p : ℕ) (d : Child) : Type 0 where
+  pub joins : (k : ℕ) (es : List Entry) → joinedIf k ws (e .plan) p d es ≡ admitted ws k e p es
+  pub below : (d .action ≡ 255) ⊎ (d .action < actionCount ws p)
 
 -- after all those of the n states from p on
 abbrev pub admittedFrom : Words → ℕ → Entry → ℕ → ℕ → List Entry → List Entry

@@ -8,6 +8,7 @@
 use book::Sizes;
 use pool::Pool;
 ghost use mathlib.Core.Path.{_≡_};
+ghost use mathlib.Core.Logic.{_⊎_};
 ghost use mathlib.Core.List.{[], _∷_};
 ghost use Prim.Native.Nat.{_+_, _*_, _<_, _≤_};
 ghost use lib.ListN.{length, set};
@@ -15,9 +16,9 @@ ghost use Rattle.model.specs.Model.{stateCount, actionCount};
 ghost use Rattle.model.specs.Questions.{bookNumber};
 ghost use Rattle.book.specs.Read.{SizesAre};
 ghost use Rattle.nexts.specs.Nexts.{NextsOf};
-ghost use Rattle.build.specs.Best.{BestOf};
-ghost use Rattle.build.specs.Walk.{Usable};
-ghost use Rattle.engine.specs.Engine.{Ready, Parenting, Waiting, entryOf, childOf, joined, admitted, admittedFrom, splitPool, restPool, Found, firstCandidate, Ranked};
+ghost use Rattle.build.specs.Best.{RowsOf, BestOf};
+ghost use Rattle.build.specs.Walk.{Usable, Walked};
+ghost use Rattle.engine.specs.Engine.{Ready, Parenting, Waiting, entryOf, joinedIf, ChildIs, admittedFrom, splitPool, restPool, Found, firstCandidate, Ranked};
 ghost use Rattle.laws.specs.Members.{Every};
 ghost use Rattle.pool.specs.Entries.{poolOf, entries, firstEntry};
 ghost use Rattle.stored.specs.Children.{Right};
@@ -44,8 +45,8 @@ fn zeros() -> [u8; 64]
     [0; 64]
 }
 
-// The child d of the policy `plan` joins those that wait: it splits at state p. Gives how many wait then. The bytes of a child that costs more than the
-// last of k that wait are not needed.
+// The child d of the policy `plan` joins those that wait, if there is one: it splits at state p, and `from` is the set of the states that the bytes
+// before p reach. Gives how many wait then. The bytes of a child that costs more than the last of k that wait are not needed.
 fn add_child(
     b: &[i32],
     z: Sizes,
@@ -54,6 +55,7 @@ fn add_child(
     plan: &[u8],
     p: usize,
     d: Child,
+    from: u64,
     k: usize,
     cs: &mut [i64; 64],
     ps: &mut [u8; 4096],
@@ -62,58 +64,61 @@ fn add_child(
     os: &mut [usize; 64],
     n: usize,
 ) -> usize
-    requires { ⌜ (bookNumber (now b) ≡ 0) × SizesAre (now b) z × NextsOf (now b) (now nx) × BestOf (now b) (now best) × Usable (now b) (now plan) p × (p < stateCount (now b)) × (d .action < actionCount (now b) p) × Waiting k (poolOf (now cs) (now ps) (now ss) (now ms) (now os) n) ⌝ }
-    ensures { λ r. ⌜ Waiting k (poolOf (now (cs .exit)) (now (ps .exit)) (now (ss .exit)) (now (ms .exit)) (now (os .exit)) r) × (entries (stateCount (now (b .entry))) (poolOf (now (cs .exit)) (now (ps .exit)) (now (ss .exit)) (now (ms .exit)) (now (os .exit)) r) ≡ joined k (childOf (now (b .entry)) (now (plan .entry)) p d) (entries (stateCount (now (b .entry))) (poolOf (now (cs .entry)) (now (ps .entry)) (now (ss .entry)) (now (ms .entry)) (now (os .entry)) n))) ⌝ }
+    requires { ⌜ (bookNumber (now b) ≡ 0) × SizesAre (now b) z × NextsOf (now b) (now nx) × BestOf (now b) (now best) × Usable (now b) (now plan) p × (p < stateCount (now b)) × ((d .action ≡ 255) ⊎ (d .action < actionCount (now b) p)) × Walked (now b) (now plan) p from × Waiting k (poolOf (now cs) (now ps) (now ss) (now ms) (now os) n) ⌝ }
+    ensures { λ r. ⌜ Waiting k (poolOf (now (cs .exit)) (now (ps .exit)) (now (ss .exit)) (now (ms .exit)) (now (os .exit)) r) × (entries (stateCount (now (b .entry))) (poolOf (now (cs .exit)) (now (ps .exit)) (now (ss .exit)) (now (ms .exit)) (now (os .exit)) r) ≡ joinedIf k (now (b .entry)) (now (plan .entry)) p d (entries (stateCount (now (b .entry))) (poolOf (now (cs .entry)) (now (ps .entry)) (now (ss .entry)) (now (ms .entry)) (now (os .entry)) n))) ⌝ }
 {
+    if d.action == 255 {
+        return n;
+    }
     if pool::beyond(cs, os, n, k, d.cost) {
         return n;
     }
     let s = z.s;
     let mut row = zeros();
-    build::build(b, nx, best, plan, p, d.action, &mut row[..s]);
+    build::build(b, nx, best, plan, p, d.action, from, &mut row[..s]);
     pool::insert(cs, ps, ss, ms, os, n, k, s, d.cost, &row[..s], p, d.mask)
 }
 
-// The child of e at state p joins those that wait, if e reaches p and an action is left there.
-fn split_state(
+// No child: its action is 255.
+fn no_child() -> Child
+    ensures { λ r. ⌜ r .action ≡ 255 ⌝ }
+{
+    Child {
+        cost: 0,
+        action: 255,
+        mask: 0,
+    }
+}
+
+// The child of e at state p, if e reaches p and an action is left there.
+fn child_at(
     b: &[i32],
     z: Sizes,
-    x: &[usize; 192],
-    nx: &[u64; 512],
     q: &[i64; 512],
-    best: &[usize; 64],
     w: &[usize; 64],
     plan: &[u8],
     e: Parent,
     p: usize,
-    k: usize,
-    cs: &mut [i64; 64],
-    ps: &mut [u8; 4096],
-    ss: &mut [usize; 64],
-    ms: &mut [u8; 64],
-    os: &mut [usize; 64],
-    n: usize,
-) -> usize
-    requires { ⌜ Ready (now b) z (now x) (now nx) (now q) (now best) × Parenting (now b) e (now plan) (now w) × (e .split ≤ p) × (p < stateCount (now b)) × Waiting k (poolOf (now cs) (now ps) (now ss) (now ms) (now os) n) ⌝ }
-    ensures { λ r. ⌜ Waiting k (poolOf (now (cs .exit)) (now (ps .exit)) (now (ss .exit)) (now (ms .exit)) (now (os .exit)) r) × (entries (stateCount (now (b .entry))) (poolOf (now (cs .exit)) (now (ps .exit)) (now (ss .exit)) (now (ms .exit)) (now (os .exit)) r) ≡ admitted (now (b .entry)) k (entryOf e (now (plan .entry))) p (entries (stateCount (now (b .entry))) (poolOf (now (cs .entry)) (now (ps .entry)) (now (ss .entry)) (now (ms .entry)) (now (os .entry)) n))) ⌝ }
+) -> Child
+    requires { ⌜ (bookNumber (now b) ≡ 0) × SizesAre (now b) z × RowsOf (now b) (now q) × Parenting (now b) e (now plan) (now w) × (e .split ≤ p) × (p < stateCount (now b)) ⌝ }
+    ensures { λ r. ⌜ ChildIs (now (b .entry)) (entryOf e (now (plan .entry))) p r ⌝ }
 {
     let f = plan[p] as usize;
     if f == 255 {
-        return n;
+        return no_child();
     }
     let mask = child::mask_at(e.split, e.mask, p, f);
-    let actions = index::count(b, z, p);
-    let c = table::best_action(q, p, actions, mask);
+    let n = index::count(b, z, p);
+    let c = table::best_action(q, p, n, mask);
     if c == 255 {
-        return n;
+        return no_child();
     }
     let cost = child::child_cost(q, w, p, c, f, e.cost);
-    let d = Child {
+    Child {
         cost: cost,
         action: c,
         mask: mask,
-    };
-    add_child(b, z, nx, best, plan, p, d, k, cs, ps, ss, ms, os, n)
+    }
 }
 
 // All children of e join those that wait.
@@ -139,28 +144,16 @@ fn split_all(
     ensures { λ r. ⌜ Waiting k (poolOf (now (cs .exit)) (now (ps .exit)) (now (ss .exit)) (now (ms .exit)) (now (os .exit)) r) × (entries (stateCount (now (b .entry))) (poolOf (now (cs .exit)) (now (ps .exit)) (now (ss .exit)) (now (ms .exit)) (now (os .exit)) r) ≡ admittedFrom (now (b .entry)) k (entryOf e (now (plan .entry))) 0 (stateCount (now (b .entry))) (entries (stateCount (now (b .entry))) (poolOf (now (cs .entry)) (now (ps .entry)) (now (ss .entry)) (now (ms .entry)) (now (os .entry)) n))) ⌝ }
 {
     let s = z.s;
-    let mut m = n;
     let mut p = e.split;
+    if s <= p {
+        return n;
+    }
+    let mut reach = build::reached_before(b, nx, plan, p);
+    let mut m = n;
     while p < s {
-        m = split_state(
-            b,
-            z,
-            x,
-            nx,
-            q,
-            best,
-            w,
-            plan,
-            e,
-            p,
-            k,
-            cs,
-            ps,
-            ss,
-            ms,
-            os,
-            m,
-        );
+        let d = child_at(b, z, q, w, plan, e, p);
+        m = add_child(b, z, nx, best, plan, p, d, reach, k, cs, ps, ss, ms, os, m);
+        reach = build::pass_state(b, nx, plan, p, reach);
         p = p + 1;
     }
     m
@@ -366,7 +359,7 @@ fn first_pool(b: &[i32], z: Sizes, nx: &[u64; 512], best: &[usize; 64], cost: i6
     let first = best[0];
     let none = zeros();
     let mut row = zeros();
-    build::build(b, nx, best, &none[..s], 0, first, &mut row[..s]);
+    build::build(b, nx, best, &none[..s], 0, first, 1, &mut row[..s]);
     pool::single(s, cost, &row[..s])
 }
 

@@ -3,7 +3,8 @@
 use mathlib.Core.Path.{_≡_, refl, sym, ap, _∙_, subst}
 use mathlib.Core.Bool.{Bool, true, false, not, _&&_, _||_}
 use mathlib.Core.List.{List, [], _∷_, _++_, map}
-use Prim.Native.Nat.{ℕ, zero, suc, _-_, _≤_, _<_}
+use Prim.Native.Nat.{ℕ, zero, suc, _+_, _-_, _≤_, _<_}
+use native.Mathlib.Numerals.{add-one}
 use native.Mathlib.Omega.{arith}
 use lib.Dec.{T, eqb, eqb→eq}
 use lib.IntN.{ℤ, pos}
@@ -16,7 +17,7 @@ use Rattle.laws.specs.Int.{ints, lt-in, ≤ℤ-trans, <→≤}
 use Rattle.laws.specs.Members.{true-T, false-T, and-T, Every, every-in, every-imp}
 use Rattle.stored.specs.Entry.{Entry, earlierEntry}
 use Rattle.pool.specs.declared.Pool.{Pool}
-use Rattle.pool.specs.Entries.{entryAt, entries, Ascending, costsOf, beyondOf}
+use Rattle.pool.specs.Entries.{entryAt, entries, row, Ascending, slotCosts, costsOf, Cheaper, earlierThan, beyondOf}
 use Rattle.pool.proofs.Lists.{at-in}
 
 -- ---- one comparison
@@ -85,8 +86,11 @@ every-take P (suc k) (x ∷ xs) h = (h .0, every-take P k xs (h .1))
 ascends-take : (k : ℕ) (es : List Entry) → Ascending (costs es) → Ascending (costs (take k es))
 ascends-take zero es h = tt
 ascends-take (suc k) [] h = tt
-ascends-take (suc k) (e ∷ es) h =
-    (subst (Every (λ (y : ℤ). e .cost ≤ℤ y)) (sym (costs-take k es)) (every-take (λ (y : ℤ). e .cost ≤ℤ y) k (costs es) (h .0)), ascends-take k es (h .1))
+ascends-take (suc k) (e ∷ es) h = (
+  subst (Every (λ (y : ℤ). e .cost ≤ℤ y)) (sym (costs-take k es)) (every-take (λ (y : ℤ). e .cost ≤ℤ y) k (costs es) (h .0)),
+  ascends-take k es
+      (h .1),
+)
   where
     costs-take : (k : ℕ) (es : List Entry) → costs (take k es) ≡ take k (costs es)
     costs-take zero es = refl
@@ -156,3 +160,34 @@ module _ (s k : ℕ) (p : Pool) (low : 1 ≤ k) (long : length (take (p .count) 
   not-kept =
       sym (ap (take k) (to-end e (entries s p) below)
       ∙ take-at (entries s p) (e ∷ []) k (length-map (take (p .count) (p .order)) (entryAt s p) ∙ long ∙ all))
+
+-- ---- the slots that cost less
+
+module _ (zs : List ℤ) where
+  abbrev cost-at : ℕ → ℤ
+  cost-at j = getD zs j (pos 0)
+
+  -- those up to place m cost no more than that of m
+  up-to : (xs : List ℕ) (m : ℕ) → m < length xs → Ascending (slotCosts zs xs) → Every (λ (j : ℕ). cost-at j ≤ℤ cost-at (getD xs m 0))
+      (take (suc m) xs)
+  up-to [] m h a = absurd (omega arith)
+  up-to (x ∷ xs) zero h a = (≤ℤ-refl (cost-at x), tt)
+  up-to (x ∷ xs) (suc m) h a =
+      let e = List·getD-map cost-at xs m 0 in (
+        subst (λ (y : ℤ). cost-at x ≤ℤ y) e
+            (every-in (λ (y : ℤ). cost-at x ≤ℤ y) (slotCosts zs xs) (a .0) (getD (slotCosts zs xs) m (cost-at 0))
+            (at-in (slotCosts zs xs) m (cost-at 0) (omega (arith, length-map xs cost-at)))),
+        up-to xs m (omega arith) (a .1),
+      )
+
+  pub cheaper-more : (xs : List ℕ) (m : ℕ) (x : ℤ) → m < length xs → Ascending (slotCosts zs xs) → ltZ (cost-at (getD xs m 0)) x ≡ true
+      → Cheaper zs x (take (m + 1) xs)
+  cheaper-more xs m x h a t =
+      let l : cost-at (getD xs m 0) <ℤ x = ltZ-yes (true-T t) in
+      rw add-one (every-imp (λ (j : ℕ) (k : cost-at j ≤ℤ cost-at (getD xs m 0)). omega (ints, lt-in, k, l)) (take (suc m) xs) (up-to xs m h a))
+
+  -- none of them comes after
+  pub cheaper-no : (ps bs : List ℕ) (s : ℕ) (x : ℤ) (js : List ℕ) → Cheaper zs x js → Every (λ (j : ℕ). earlierThan x bs s zs ps j ≡ false) js
+  cheaper-no ps bs s x js h =
+      every-imp (λ (j : ℕ) (k : cost-at j <ℤ x).
+      dear-later (record { cost = x; plan = bs; split = 0; mask = 0 }) (record { cost = cost-at j; plan = row s ps j; split = 0; mask = 0 }) k) js h

@@ -4,7 +4,7 @@ use mathlib.Core.Path.{_≡_, refl, sym, ap, ap₂, _∙_, subst}
 use mathlib.Core.Bool.{Bool, true, false, cond}
 use mathlib.Core.Logic.{_⊎_, inl, inr}
 use mathlib.Core.List.{List, [], _∷_, _++_, map, append-assoc, append-nil, map-append}
-use Prim.Native.Nat.{ℕ, suc, _+_, _*_, _-_, _≤_, _<_}
+use Prim.Native.Nat.{ℕ, zero, suc, _+_, _*_, _-_, _≤_, _<_}
 use native.Mathlib.Nat.{add-zero}
 use native.Mathlib.Numerals.{add-one}
 use native.Mathlib.Decide.{decLt}
@@ -13,7 +13,7 @@ use lib.IntN.{pos}
 use lib.ListN.{length, getD, set, take, drop, length-append, length-map, length-set, drop-of-length-le}
 use lib.Seq.{drop-cons, take-suc, take-all, take-at, drop-at, length-take-le, getD-set-same, getD-set-other, paste}
 use Rattle.model.specs.Lists.{insert}
-use Rattle.laws.specs.Members.{In, every-in, ++-in}
+use Rattle.laws.specs.Members.{In, Every, every-in, ++-in}
 use Rattle.laws.specs.Sorting.{in-take}
 use Rattle.pool.specs.declared.Pool.{Pool}
 use Rattle.stored.specs.Entry.{Entry, earlierEntry}
@@ -35,6 +35,14 @@ module _ (test : ℕ → Bool) where
 
   pub yes-none : (xs : List ℕ) (i : ℕ) → length xs ≤ i → i + firstYes test (drop i xs) ≡ i
   yes-none xs i h = rw (drop-of-length-le xs {i = i} h) (add-zero i)
+
+  -- numbers before it that do not pass are left out
+  pub yes-skip : (xs : List ℕ) (i : ℕ) → i ≤ length xs → Every (λ (x : ℕ). test x ≡ false) (take i xs) → firstYes test xs ≡ i + firstYes test
+      (drop i xs)
+  yes-skip [] zero l h = omega arith
+  yes-skip [] (suc i) l h = absurd (omega arith)
+  yes-skip (x ∷ xs) zero l h = omega arith
+  yes-skip (x ∷ xs) (suc i) l h = ap (λ (t : Bool). cond t 0 (suc (firstYes test xs))) (h .0) ∙ omega (arith, yes-skip xs i (omega arith) (h .1))
 
   -- the search for it, one number at a time
   module _ (xs : List ℕ) (i : ℕ) (h : i < length xs) where

@@ -7,7 +7,7 @@ use mathlib.Core.List.{List, [], _∷_, _++_, map}
 use Prim.Native.Nat.{ℕ, suc, _+_, _*_, _-_, _≤_, _<_}
 use lib.IntN.{ℤ, pos}
 use lib.Dec.{eqb}
-use lib.Signed.{ltZ, _≤ℤ_}
+use lib.Signed.{ltZ, _≤ℤ_, _<ℤ_}
 use lib.ListN.{length, getD, take, drop}
 use Rattle.model.specs.Lists.{insert}
 use Rattle.model.specs.Order.{lower}
@@ -50,9 +50,13 @@ abbrev pub Ascending : List ℤ → Type 0
 Ascending [] = Unit {0}
 Ascending (x ∷ xs) = Every (λ (y : ℤ). x ≤ℤ y) xs × Ascending xs
 
+-- the costs of slots
+abbrev pub slotCosts : List ℤ → List ℕ → List ℤ
+slotCosts costs js = map (λ (j : ℕ). getD costs j (pos 0)) js
+
 -- the costs of those that wait, in order
 abbrev pub costsOf : Pool → List ℤ
-costsOf p = map (λ (j : ℕ). getD (p .costs) j (pos 0)) (take (p .count) (p .order))
+costsOf p = slotCosts (p .costs) (take (p .count) (p .order))
 
 -- what holds of every pool
 pub record Formed (p : Pool) : Type 0 where
@@ -69,6 +73,10 @@ pub record Formed (p : Pool) : Type 0 where
 -- `earlierEntry` by a cost and a plan, and those of slot j
 abbrev pub earlierThan : ℤ → List ℕ → ℕ → List ℤ → List ℕ → ℕ → Bool
 earlierThan x bs s costs plans j = ltZ x (getD costs j (pos 0)) || (not (ltZ (getD costs j (pos 0)) x) && lower bs (row s plans j))
+
+-- the slots cost less than x
+abbrev pub Cheaper : List ℤ → ℤ → List ℕ → Type 0
+Cheaper costs x js = Every (λ (j : ℕ). getD costs j (pos 0) <ℤ x) js
 
 -- how many numbers stand before the first that passes the test
 abbrev pub firstYes : (ℕ → Bool) → List ℕ → ℕ

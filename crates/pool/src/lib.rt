@@ -6,7 +6,7 @@ ghost use Prim.Native.Nat.{_+_, _*_, _<_, _≤_};
 ghost use lib.ListN.{length, take, replicate};
 ghost use lib.Seq.{paste};
 ghost use Rattle.model.specs.Order.{lower};
-ghost use Rattle.pool.specs.Entries.{row, poolOf, entries, Slots, Formed, earlierThan, firstYes, beyondOf, Inserted, Spare, movedUp, movedBack};
+ghost use Rattle.pool.specs.Entries.{row, poolOf, entries, Slots, Ascending, slotCosts, Formed, Cheaper, earlierThan, firstYes, beyondOf, Inserted, Spare, movedUp, movedBack};
 
 pub struct Pool {
     // by slot
@@ -82,6 +82,26 @@ fn earlier(
     lower_bytes(plans, j, s, plan)
 }
 
+// How many of the first n slots of `order` cost less: the costs ascend, so half of those in question are left after each test.
+fn cheaper(costs: &[i64; 64], order: &[usize; 64], n: usize, cost: i64) -> usize
+    requires { ⌜ Slots (now order) × (n ≤ 64) × Ascending (slotCosts (now costs) (take n (now order))) ⌝ }
+    ensures { λ r. ⌜ (r ≤ n) × Cheaper (now (costs .entry)) cost (take r (take n (now (order .entry)))) ⌝ }
+{
+    let mut low: usize = 0;
+    let mut high = n;
+    while low < high {
+        let middle = (low + high) / 2;
+        let slot = order[middle];
+        let here = costs[slot];
+        if here < cost {
+            low = middle + 1;
+        } else {
+            high = middle;
+        }
+    }
+    low
+}
+
 // How many of the first n slots of `order` hold candidates that stay before the new one.
 fn place(
     costs: &[i64; 64],
@@ -92,10 +112,10 @@ fn place(
     cost: i64,
     plan: &[u8],
 ) -> usize
-    requires { ⌜ (length (now plans) ≡ 4096) × Slots (now order) × (n ≤ 64) × (s ≤ 64) × (length (now plan) ≡ s) ⌝ }
+    requires { ⌜ (length (now plans) ≡ 4096) × Slots (now order) × (n ≤ 64) × (s ≤ 64) × (length (now plan) ≡ s) × Ascending (slotCosts (now costs) (take n (now order))) ⌝ }
     ensures { λ r. ⌜ r ≡ firstYes (earlierThan cost (now (plan .entry)) s (now (costs .entry)) (now (plans .entry))) (take n (now (order .entry))) ⌝ }
 {
-    let mut i: usize = 0;
+    let mut i = cheaper(costs, order, n, cost);
     while i < n {
         if earlier(costs, plans, order[i], s, cost, plan) {
             return i;

@@ -1,34 +1,60 @@
 -- The pass has come to state s.
 -- Assumes nothing.
-use mathlib.Core.Path.{sym, _∙_}
+use mathlib.Core.Path.{_≡_, sym, _∙_}
+use mathlib.Core.List.{List, _++_}
 use Prim.Native.Nat.{ℕ, _-_, _≤_}
 use native.Mathlib.Omega.{arith}
+use lib.ListN.{length, take, drop}
 use Rattle.model.specs.Model.{stateCount}
 use Rattle.build.specs.Walk.{chosen}
-use Rattle.build.proofs.Pass.{Pass, begin, finish, pass-more}
+use Rattle.build.proofs.Pass.{Pass, finish, pass-more}
+use Rattle.build.proofs.Prefix.{usable-long, copied, begin-at}
 use Rattle.build.proofs.build.Statement.{statement}
 use Rattle.build.proofs.build.Tie as tie
 
 abbrev Inv-loop : tie.InvT-loop
-Inv-loop b t best plan r c out₀ reach₀ s₀ out reach s = (s ≤ stateCount b) × Pass b (chosen b plan r c) s reach out
+Inv-loop b nx best plan r c from out₀ reach₀ s₀ out reach s = (s ≤ stateCount b) × Pass b (chosen b plan r c) s reach out
 
 abbrev μ-loop : tie.MeasureT-loop
-μ-loop b t best plan r c out₀ reach₀ s₀ out reach s = stateCount b - s
+μ-loop b nx best plan r c from out₀ reach₀ s₀ out reach s = stateCount b - s
 
 -- the action at each state
 abbrev choose : tie.Start Inv-loop μ-loop → ℕ → ℕ
 choose s = chosen (s .args .b .now) (s .args .plan .now) (s .args .r) (s .args .c)
 
+kept : (s : tie.Start Inv-loop μ-loop) → s .args .r ≤ length (s .args .plan .now)
+kept s = usable-long (s .args .b .now) (s .args .plan .now) (s .args .r) (s .pre .3)
+
+copy-before-requires : tie.Need-copy-before-requires Inv-loop μ-loop
+copy-before-requires c κs =
+    let s = c .before .before .before in
+    (kept s, omega (arith, s .pre .4, s .pre .7))
+
+-- the bytes before r are there
+module _ (s : tie.Start Inv-loop μ-loop) {o : List ℕ} (e : o ≡ take (s .args .r) (s .args .plan .now) ++ drop (s .args .r) (s .args .out .now)) where
+  front : (length o ≡ stateCount (s .args .b .now)) × (take (s .args .r) o ≡ take (s .args .r) (s .args .plan .now))
+  front =
+      copied (s .args .plan .now) (s .args .out .now) (s .args .r) (stateCount (s .args .b .now)) (kept s) (s .pre .7) (omega (arith, s .pre .4)) e
+
+  begun : Pass (s .args .b .now) (choose s) (s .args .r) (s .args .from) o
+  begun = begin-at (s .args .b .now) (s .args .plan .now) (s .args .r) (s .args .c) (s .args .from) o (s .pre .6) (front .0) (front .1)
+
 loop-holds : tie.Need-loop-holds Inv-loop μ-loop
 loop-holds c =
-    let s = c .before .before in
-    (omega arith, begin (s .args .b .now) (choose s) (s .args .out .now) (s .pre .6))
+    let a = c .before .before in
+    let s = a .before .before .before .before in
+    (omega (arith, s .pre .4), begun s (a .copy-before .ensures))
+
+-- at the head of the loop
+module _ (l : tie.At-loop Inv-loop μ-loop) where
+  abbrev s : tie.Start Inv-loop μ-loop
+  s = l .before .before .before .before .before .before .before
 
 step-requires : tie.Need-step-requires Inv-loop μ-loop
 step-requires c κs =
     let l = c .before in
-    let s = l .before .before .before in
-    (s .pre .0, s .pre .1, s .pre .2, s .pre .3, s .pre .5, omega (arith, l .loop .inv .1 .long))
+    let h = s l .pre in
+    (h .0, h .1, h .2, h .3, h .5, omega (arith, l .loop .inv .1 .long))
 
 slice-write-out : tie.Need-slice-write-out Inv-loop μ-loop
 slice-write-out c = omega arith
@@ -42,20 +68,19 @@ loop-less c = let l = c .before .before in omega (arith, l .loop .inv .1 .long)
 loop-again : tie.Need-loop-again Inv-loop μ-loop
 loop-again c =
     let l = c .before .before in
-    let s = l .before .before .before in (
+    let a = s l in (
       omega (arith, l .loop .inv .1 .long),
-      pass-more (s .args .b .now) (choose s) (l .loop .s) (l .loop .reach) (l .loop .out) (l .loop .inv .1) (s .pre .0)
+      pass-more (a .args .b .now) (choose a) (l .loop .s) (l .loop .reach) (l .loop .out) (l .loop .inv .1) (a .pre .0)
           (omega (arith, l .loop .inv .1 .long)) (c .step .result .byte) (c .step .result .reach) (c .step .ensures),
     )
 
 same-length : tie.Need-same-length Inv-loop μ-loop
-same-length c = let l = c .before in l .loop .inv .1 .long ∙ sym (l .before .before .before .pre .6)
+same-length c = let l = c .before in l .loop .inv .1 .long ∙ sym (s l .pre .7)
 
 returns : tie.Need-returns Inv-loop μ-loop
 returns c =
     let l = c .before in
-    let s = l .before .before .before in
-    finish (s .args .b .now) (choose s) (l .loop .s) (l .loop .reach) (l .loop .out) (l .loop .inv .1) (omega (arith, l .loop .inv .1 .long))
+    finish (s l .args .b .now) (choose (s l)) (l .loop .s) (l .loop .reach) (l .loop .out) (l .loop .inv .1) (omega (arith, l .loop .inv .1 .long))
 
 pub build-spec : {M : Type 1} → statement M
 build-spec =
@@ -63,6 +88,7 @@ build-spec =
     (tie.spec
     Inv-loop
     μ-loop
+    copy-before-requires
     loop-holds
     step-requires
     slice-write-out

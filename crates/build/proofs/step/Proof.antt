@@ -95,7 +95,7 @@ returns-3 c =
     let a = e .before in
     let s = s a in
     let act = chosen (ws a) (s .args .plan .now) (s .args .r) (s .args .c) (s .args .s) in
-    let more = getD (s .args .t .now) (8 * s .args .s + a .choice .result) 0 in
+    let more = getD (s .args .nx .now) (8 * s .args .s + a .choice .result) 0 in
     subst (λ (m : ℕ). Stepped (action (ws a)) (s .args .s) act (a .choice .result) (s .args .reach) m) (sym (c .join .ensures))
     (step-on (ws a) (s .pre .0) (s .args .s) (s .args .reach) act (a .choice .result) (in-it a) (is a) more
     (s .pre .1 .at (s .args .s) (a .choice .result) (s .pre .5) (below e)))

@@ -11,6 +11,8 @@ use Rattle.accepted.specs.Facts.{accepted}
 use Rattle.accepted.specs.Shape.{shape}
 use Rattle.accepted.specs.Demands.{bestPolicy}
 use Rattle.costs.proofs.Sums.{read64}
+use Rattle.build.proofs.Pass.{first-set}
+use Rattle.build.proofs.Prefix.{walked-none}
 use Rattle.build.specs.Best.{bestAt}
 use Rattle.build.specs.Walk.{walkBy, chosen}
 use Rattle.build.proofs.Best.{best-at-below}
@@ -67,6 +69,7 @@ build-requires c κs =
       (λ i l. absurd (omega arith)),
       shape (ws s) (h .0) .some-state,
       subst (λ (n : ℕ). n < actionCount (ws s) 0) (sym (best-first s)) (best-at-below (ws s) 0 (h .0) (shape (ws s) (h .0) .some-state)),
+      walked-none (ws s) (take (s .args .z .s) (c .before .before .before .zeros .result)) 1 first-set,
       row-long (c .before .before .zeros2 .result) (c .before .before .zeros2 .ensures) s ∙ h .1 .s-is,
     )
 

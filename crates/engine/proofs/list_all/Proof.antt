@@ -18,7 +18,8 @@ use Rattle.engine.proofs.list_all.Tie as tie
 abbrev Inv-loop : tie.InvT-loop
 Inv-loop b z x nx q best k cs₀ ps₀ ss₀ ms₀ os₀ n costs₀ plans₀ m₀ j₀ cs ps ss ms os costs plans m j =
     Waiting k (poolOf cs ps ss ms os m) × (j ≤ k)
-    × Listing b k (entries (stateCount b) (poolOf cs₀ ps₀ ss₀ ms₀ os₀ n)) costs₀ plans₀ j (entries (stateCount b) (poolOf cs ps ss ms os m)) costs plans
+    × Listing b k (entries (stateCount b) (poolOf cs₀ ps₀ ss₀ ms₀ os₀ n)) costs₀ plans₀ j (entries (stateCount b) (poolOf cs ps ss ms os m)) costs
+    plans
 
 abbrev μ-loop : tie.MeasureT-loop
 μ-loop b z x nx q best k cs₀ ps₀ ss₀ ms₀ os₀ n costs₀ plans₀ m₀ j₀ cs ps ss ms os costs plans m j = k - j
@@ -44,14 +45,18 @@ module _ (a : tie.At-loop Inv-loop μ-loop) where
   pool = poolOf (a .loop .cs) (a .loop .ps) (a .loop .ss) (a .loop .ms) (a .loop .os) (a .loop .m)
 
   finished : runEntries (ws s) (s .args .k) (s .args .k - a .loop .j) (entries (stateCount (ws s)) pool) ≡ []
-      → Found (runEntries (ws s) (s .args .k) (s .args .k) (start s)) (a .loop .j) (s .args .costs .now) (a .loop .costs) (s .args .plans .now) (a .loop .plans)
-  finished = finish (ws s) (s .pre .0 .ok) (s .args .k) (start s) (s .args .costs .now) (s .args .plans .now) (a .loop .j) (entries (stateCount (ws s)) pool) (a .loop .costs) (a .loop .plans) (a .loop .inv .2)
+      → Found (runEntries (ws s) (s .args .k) (s .args .k) (start s)) (a .loop .j) (s .args .costs .now) (a .loop .costs) (s .args .plans .now)
+      (a .loop .plans)
+  finished = finish (ws s) (s .pre .0 .ok) (s .args .k) (start s) (s .args .costs .now) (s .args .plans .now) (a .loop .j)
+      (entries (stateCount (ws s)) pool) (a .loop .costs) (a .loop .plans) (a .loop .inv .2)
 
   none-left : a .loop .m ≡ 0 → runEntries (ws s) (s .args .k) (s .args .k - a .loop .j) (entries (stateCount (ws s)) pool) ≡ []
-  none-left h = none-waits (ws s) (s .pre .0 .ok) (s .args .k) (start s) (s .args .costs .now) (s .args .plans .now) (s .args .k - a .loop .j) (entries (stateCount (ws s)) pool) (pool-empty (stateCount (ws s)) pool h)
+  none-left h = none-waits (ws s) (s .pre .0 .ok) (s .args .k) (start s) (s .args .costs .now) (s .args .plans .now) (s .args .k - a .loop .j)
+      (entries (stateCount (ws s)) pool) (pool-empty (stateCount (ws s)) pool h)
 
   all-listed : s .args .k ≤ a .loop .j → runEntries (ws s) (s .args .k) (s .args .k - a .loop .j) (entries (stateCount (ws s)) pool) ≡ []
-  all-listed h = done (ws s) (s .pre .0 .ok) (s .args .k) (start s) (s .args .costs .now) (s .args .plans .now) (a .loop .j) (entries (stateCount (ws s)) pool) h
+  all-listed h = done (ws s) (s .pre .0 .ok) (s .args .k) (start s) (s .args .costs .now) (s .args .plans .now) (a .loop .j)
+      (entries (stateCount (ws s)) pool) h
 
 same-length : tie.Need-same-length Inv-loop μ-loop
 same-length c = c .before .before .loop .inv .2 .costs-long
@@ -75,7 +80,8 @@ list-one-requires c κs =
       h .0,
       i .0,
       some,
-      first-right (ws (s a)) (h .0 .ok) (s a .args .k) (start (s a)) (s a .args .costs .now) (s a .args .plans .now) (l .j) (pool a) (l .costs) (l .plans) (i .2) (i .0 .formed) some,
+      first-right (ws (s a)) (h .0 .ok) (s a .args .k) (start (s a)) (s a .args .costs .now) (s a .args .plans .now) (l .j) (pool a) (l .costs)
+          (l .plans) (i .2) (i .0 .formed) some,
       t .loop-test .taken,
       omega (arith, i .2 .costs-long, h .3, more),
       omega (arith, i .2 .plans-long′, h .4, mul-le-mul-right (stateCount (ws (s a))) more),
@@ -102,7 +108,8 @@ loop-again c =
     let some : 1 ≤ l .m = omega (arith, e .if1 .left) in (
       o .0,
       omega (arith, t .loop-test .taken),
-      pool-next (ws (s a)) (h .0 .ok) (s a .args .k) (start (s a)) (s a .args .costs .now) (s a .args .plans .now) (l .j) (pool a) (l .costs) (l .plans) (i .2) (i .0 .formed) some
+      pool-next (ws (s a)) (h .0 .ok) (s a .args .k) (start (s a)) (s a .args .costs .now) (s a .args .plans .now) (l .j) (pool a) (l .costs)
+          (l .plans) (i .2) (i .0 .formed) some
           (t .loop-test .taken) (h .3) (h .4) (o .1) (o .2) (o .3),
     )
 

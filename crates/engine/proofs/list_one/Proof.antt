@@ -105,10 +105,12 @@ module _ {ys : List ℕ} (s : tie.Start) (e : ys ≡ firstEntry (s .args .z .s) 
   at = s .args .j * s .args .z .s
 
   rows-long : length (putMid at (at + s .args .z .s - at) (s .args .plans .now) ys) ≡ length (s .args .plans .now)
-  rows-long = put-long (s .args .plans .now) at (s .args .z .s) (stateCount (ws s)) (s .pre .0 .sizes .s-is) (room s) (first s .plan) (e ∙ row-same s) (long s)
+  rows-long = put-long (s .args .plans .now) at (s .args .z .s) (stateCount (ws s)) (s .pre .0 .sizes .s-is) (room s) (first s .plan)
+      (e ∙ row-same s) (long s)
 
   rows-read : take (at + s .args .z .s - at) (drop at (putMid at (at + s .args .z .s - at) (s .args .plans .now) ys)) ≡ first s .plan
-  rows-read = put-read (s .args .plans .now) at (s .args .z .s) (stateCount (ws s)) (s .pre .0 .sizes .s-is) (room s) (first s .plan) (e ∙ row-same s) (long s)
+  rows-read = put-read (s .args .plans .now) at (s .args .z .s) (stateCount (ws s)) (s .pre .0 .sizes .s-is) (room s) (first s .plan)
+      (e ∙ row-same s) (long s)
 
   rows-are : putMid at (at + s .args .z .s - at) (s .args .plans .now) ys
       ≡ written (s .args .plans .now) (s .args .j * stateCount (ws s)) (stateCount (ws s)) (first s .plan)
@@ -120,9 +122,10 @@ abbrev from : tie.After-read-row → tie.Start
 from r = r .before .before .before .before .before .before
 
 -- what is written
-listed-cost : (s : tie.Start) → set (s .args .costs .now) (s .args .j) (toZ w64 (ofZ w64 (first s .cost))) ≡ set (s .args .costs .now) (s .args .j) (first s .cost)
+listed-cost : (s : tie.Start) → set (s .args .costs .now) (s .args .j) (toZ w64 (ofZ w64 (first s .cost))) ≡ set (s .args .costs .now) (s .args .j)
+    (first s .cost)
 listed-cost s =
-    ap (set (s .args .costs .now) (s .args .j)) (cost-read (ws s) (s .args .z) (s .args .x .now) (s .args .nx .now) (s .args .q .now) (s .args .best .now) (s .pre .0) (first s) (s .pre .3) refl)
+    ap (set (s .args .costs .now) (s .args .j)) (cost-read (ws s) (s .pre .0 .ok) (s .args .q .now) (s .pre .0 .rows) (first s) (s .pre .3) refl)
 
 abbrev waiting : tie.Start → List Entry
 waiting s = entries (stateCount (ws s)) (pool s)
@@ -186,7 +189,8 @@ returns-2 c =
     let s = from r in (
       c .split-first .ensures .0,
       c .split-first .ensures .1
-          ∙ sym (ap (λ (t : Bool). cond t (waiting s) (splitPool (ws s) (s .args .k) (waiting s))) (ne-eqb (s .args .j + 1) (s .args .k) (e .if1 .left))),
+          ∙ sym (ap (λ (t : Bool). cond t (waiting s) (splitPool (ws s) (s .args .k) (waiting s)))
+          (ne-eqb (s .args .j + 1) (s .args .k) (e .if1 .left))),
       listed-cost s,
       rows-are s (r .read-row .ensures),
     )

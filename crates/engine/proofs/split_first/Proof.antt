@@ -74,8 +74,9 @@ module _ (c : tie.After-move-back) where
   abbrev s : tie.Start
   s = c .before .before .before .before .before .before .before
 
-  parent-is : entryOf (record { cost = toZ w64 (ofZ w64 (first s .cost)); split = first s .split; mask = first s .mask }) (s .args .plan .now) ≡ first s
-  parent-is = entry-is (ws s) (s .args .z) (s .args .x .now) (s .args .nx .now) (s .args .q .now) (s .args .best .now) (s .pre .0) (first s) (s .pre .3) refl (s .pre .4) refl refl
+  parent-is : entryOf (record { cost = toZ w64 (ofZ w64 (first s .cost)); split = first s .split; mask = first s .mask }) (s .args .plan .now)
+      ≡ first s
+  parent-is = entry-is (ws s) (s .pre .0 .ok) (s .args .q .now) (s .pre .0 .rows) (first s) (s .pre .3) refl (s .pre .4) refl refl
 
   popped : Popped (pool s) (shorter (pool s) (c .move-back .last .0))
   popped = shorter-popped (pool s) (s .pre .1 .formed) (s .pre .2) (c .move-back .last .0) (c .move-back .ensures)

@@ -38,7 +38,12 @@ element-copy-out-last c = low (c .before .before)
 returns-2 : tie.Need-returns-2
 returns-2 c =
     let s = c .before .before .before in
-    rw (eq-eqb (s .args .n) (s .args .k) (c .before .before .if1 .left), read64 (s .args .cost) (s .fits .cost .sfits), read64 (last s) (c .last .given))
+    rw (
+      eq-eqb (s .args .n) (s .args .k) (c .before .before .if1 .left),
+      read64 (s .args .cost) (s .fits .cost .sfits),
+      read64 (last s)
+          (c .last .given),
+    )
 
 pub beyond-spec : {M : Type 1} → statement M
 beyond-spec =

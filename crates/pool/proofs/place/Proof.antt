@@ -12,7 +12,8 @@ use lib.Seq.{length-take-le, getD-take}
 use Rattle.costs.proofs.Sums.{read64}
 use Rattle.pool.specs.Entries.{earlierThan, firstYes}
 use Rattle.pool.proofs.Moves.{slot-low}
-use Rattle.pool.proofs.Insertion.{yes-none, yes-here, yes-later}
+use Rattle.pool.proofs.Insertion.{yes-none, yes-skip, yes-here, yes-later}
+use Rattle.pool.proofs.Ascent.{cheaper-no}
 use borrow.Author.Needs.{needs}
 use Rattle.pool.proofs.place.Statement.{statement}
 use Rattle.pool.proofs.place.Tie as tie
@@ -26,8 +27,10 @@ Inv-loop costs plans order n s cost plan i₀ i =
 abbrev μ-loop : tie.MeasureT-loop
 μ-loop costs plans order n s cost plan i₀ i = n - i
 
-loop-holds : tie.Need-loop-holds Inv-loop μ-loop
-loop-holds c = (omega arith, omega arith)
+cheaper-requires : tie.Need-cheaper-requires Inv-loop μ-loop
+cheaper-requires c κs =
+    let h = c .before .pre in
+    (h .1, h .2, h .5)
 
 mul-earlier : tie.Need-mul-earlier Inv-loop μ-loop
 mul-earlier c = search needs
@@ -37,7 +40,7 @@ element-copy-out-earlier c = search needs
 
 earlier-requires : tie.Need-earlier-requires Inv-loop μ-loop
 earlier-requires c κs =
-    let s = c .before .before .before .before in
+    let s = c .before .before .before .before .before in
     (s .pre .0, slot-low (s .pre .1) (c .before .before .loop .i) (omega arith), s .pre .3, s .pre .4)
 
 -- the slots that are searched
@@ -60,10 +63,22 @@ module _ (s : tie.Start Inv-loop μ-loop) where
   at : (i : ℕ) → i < s .args .n → getD xs i 0 ≡ getD (s .args .order .now) i 0
   at i h = getD-take (s .args .n) (s .args .order .now) i 0 h
 
+loop-holds : tie.Need-loop-holds Inv-loop μ-loop
+loop-holds c =
+    let s = c .before .before in
+    let i = c .cheaper .result in
+    let e = rw (cost-is s) at (c .cheaper .ensures) in (
+      e .0,
+      rw (cost-is s)
+          (yes-skip (earlierThan (s .args .cost) (s .args .plan .now) (s .args .s) (s .args .costs .now) (s .args .plans .now)) (xs s) i
+          (omega (arith, long s, e .0))
+          (cheaper-no (s .args .costs .now) (s .args .plans .now) (s .args .plan .now) (s .args .s) (s .args .cost) (take i (xs s)) (e .1))),
+    )
+
 returns : tie.Need-returns Inv-loop μ-loop
 returns c =
     let l = c .before .before .before .before in
-    let s = l .before .before in
+    let s = l .before .before .before in
     rw (← cost-is s)
     (yes-here (test s) (xs s) (l .loop .i) (inside s (l .loop .i) (omega arith))
     (ap (test s) (at s (l .loop .i) (omega arith)) ∙ sym (c .before .earlier .ensures) ∙ c .if1 .taken)
@@ -78,7 +93,7 @@ loop-less c = omega arith
 loop-again : tie.Need-loop-again Inv-loop μ-loop
 loop-again c =
     let l = c .before .before .before .before in
-    let s = l .before .before in (
+    let s = l .before .before .before in (
       omega arith,
       l .loop .inv .1
           ∙ yes-later (test s) (xs s) (l .loop .i) (inside s (l .loop .i) (omega arith))
@@ -88,7 +103,7 @@ loop-again c =
 returns-2 : tie.Need-returns-2 Inv-loop μ-loop
 returns-2 c =
     let l = c .before in
-    let s = l .before .before in
+    let s = l .before .before .before in
     rw (← cost-is s) (sym (l .loop .inv .1 ∙ yes-none (test s) (xs s) (l .loop .i) (omega (arith, long s))))
 
 pub place-spec : {M : Type 1} → statement M
@@ -97,6 +112,7 @@ place-spec =
     (tie.spec
     Inv-loop
     μ-loop
+    cheaper-requires
     loop-holds
     mul-earlier
     element-copy-out-earlier

@@ -47,7 +47,8 @@ returns c =
     let x = s .args .cost in
     let bs = s .args .plan .now in
     subst
-    (λ (r : Pool). Formed r × (r .count ≡ 1) × (entries (s .args .s) r ≡ record { cost = s .args .cost; plan = s .args .plan .now; split = 0; mask = 0 } ∷ []))
+    (λ (r : Pool). Formed r × (r .count ≡ 1)
+    × (entries (s .args .s) r ≡ record { cost = s .args .cost; plan = s .args .plan .now; split = 0; mask = 0 } ∷ []))
     (λ t. record {
       costs = set (replicate 64 (pos 0)) (getD o 0 0) (sym (read64 x (s .fits .cost .sfits)) t);
       plans = sym (c .before .write-row .ensures) t;
@@ -55,8 +56,12 @@ returns c =
       barred = replicate 64 0;
       order = o;
       count = 1;
-    })
-    (alone-formed n (s .pre .0) o (a .first-order .ensures) x bs (s .pre .1), refl, alone-entries n (s .pre .0) o (a .first-order .ensures) x bs (s .pre .1))
+    }) (
+      alone-formed n (s .pre .0) o (a .first-order .ensures) x bs (s .pre .1),
+      refl,
+      alone-entries n (s .pre .0) o (a .first-order .ensures) x bs
+          (s .pre .1),
+    )
 
 pub single-spec : {M : Type 1} → statement M
 single-spec =
