@@ -42,7 +42,8 @@ def run_accept(label, data):
 
 
 def run_show(data, j):
-    print('  show %d:' % j + ''.join(' %d' % x for x in ref.show(data, j)))
+    for call in ('show', 'browse'):
+        print('  %s %d:' % (call, j) + ''.join(' %d' % x for x in ref.show(data, j)))
 
 
 def record_of_a(at, x):

@@ -99,10 +99,18 @@ fn run_accept(label: &[u8], r: &[u8]) {
     io::write_all(1, b"\n");
 }
 
+// Policy j of a record through a browser.
+fn run_browse(r: &[u8], j: usize) {
+    io::write_all(1, b"  browse");
+    print_figure(j);
+    print_bytes(b":", browse::browse(r, j));
+}
+
 fn run_show(r: &[u8], j: usize) {
     io::write_all(1, b"  show");
     print_figure(j);
     print_bytes(b":", accept::show(r, j));
+    run_browse(r, j);
 }
 
 // ---- the books, row by row: sizes, states of each stage, actions of each state, left column, right column
