@@ -7,9 +7,8 @@ use mathlib.Core.List.{List, [], _∷_, _++_, map, append-assoc, append-nil, map
 use Prim.Native.Nat.{ℕ, zero, suc, _+_, _*_, _-_, _≤_, _<_}
 use native.Mathlib.Nat.{add-zero}
 use native.Mathlib.Numerals.{add-one}
-use native.Mathlib.Decide.{decLt}
 use native.Mathlib.Omega.{arith}
-use lib.IntN.{pos}
+use lib.IntN.{ℤ, pos}
 use lib.ListN.{length, getD, set, take, drop, length-append, length-map, length-set, drop-of-length-le}
 use lib.Seq.{drop-cons, take-suc, take-all, take-at, drop-at, length-take-le, getD-set-same, getD-set-other, paste}
 use Rattle.model.specs.Lists.{insert}
@@ -81,33 +80,36 @@ kept a b t e n k h l (inl z) =
 kept a b t e n k h l (inr z) =
     ap (take k) (sym (append-assoc a (e ∷ b) t)) ∙ take-at (a ++ (e ∷ b)) t k (simp length-append (omega arith))
 
--- the pool with the new entry in the slot of place n, which moves up to place i
-abbrev pub filled : Pool → ℕ → Entry → ℕ → ℕ → Pool
-filled p s e i n =
+-- the pool with the new entry, whose plan is the first s of the bytes, in the slot of place n, which moves up to place i
+abbrev pub filled : Pool → ℕ → ℤ → List ℕ → ℕ → ℕ → ℕ → ℕ → Pool
+filled p s x bytes split mask i n =
     let j = getD (p .order) n 0 in
     record {
-      costs = set (p .costs) j (e .cost);
-      plans = paste (p .plans) (j * 64) (e .plan) s;
-      splits = set (p .splits) j (e .split);
-      barred = set (p .barred) j (e .mask);
+      costs = set (p .costs) j x;
+      plans = paste (p .plans) (j * 64) bytes s;
+      splits = set (p .splits) j split;
+      barred = set (p .barred) j mask;
       order = movedUp i n (p .order);
       count = n + 1;
+      most = p .most;
     }
 
 -- as many wait as the pool says
 waiting-long : (p : Pool) → Formed p → length (take (p .count) (p .order)) ≡ p .count
-waiting-long p ok = length-take-le (p .count) (p .order) (omega (arith, ok .count-high, ok .slots .long))
+waiting-long p ok = length-take-le (p .count) (p .order) (omega (arith, ok .few, ok .most-high, ok .slots .long))
 
 pub entries-long : (s : ℕ) (p : Pool) → Formed p → length (entries s p) ≡ p .count
 entries-long s p ok = length-map (take (p .count) (p .order)) (entryAt s p) ∙ waiting-long p ok
 
--- what `insert` requires
-abbrev pub Ready : Pool → ℕ → ℕ → List ℕ → Type 0
-Ready p s k bs = Formed p × (1 ≤ s) × (s ≤ 64) × (1 ≤ k) × (k ≤ 64) × (p .count ≤ k) × (length bs ≡ s)
+module _ (p : Pool) (ok : Formed p) (s : ℕ) (short : s ≤ 64) (x : ℤ) (bytes : List ℕ) (long : length bytes ≡ 64) (split mask : ℕ) where
+  abbrev k : ℕ
+  k = p .most
 
-module _ (p : Pool) (s k : ℕ) (e : Entry) (ready : Ready p s k (e .plan)) where
-  abbrev ok : Formed p
-  ok = ready .0
+  abbrev e : Entry
+  e = record { cost = x; plan = take s bytes; split = split; mask = mask }
+
+  bytes-long : s ≤ length bytes
+  bytes-long = omega arith
 
   abbrev o : List ℕ
   o = p .order
@@ -125,47 +127,43 @@ module _ (p : Pool) (s k : ℕ) (e : Entry) (ready : Ready p s k (e .plan)) wher
         ∙ ap (λ (n : ℕ). map (entryAt s p) (take n waiting) ++ (e ∷ map (entryAt s p) (drop n waiting))) (sym place)
 
     -- it comes after k others, and is not kept
-    pub unchanged : i ≡ k → Inserted s k e p p
+    pub unchanged : k ≤ i → Inserted s e p p
     unchanged h =
         record {
           formed = ok;
-          count-high = ready .5;
-          kept = sym (ap (take k) inserted
+          same-most = refl;
+          waits = sym (ap (take k) inserted
               ∙ ap (λ (xs : List ℕ). take k (map (entryAt s p) xs ++ (e ∷ map (entryAt s p) (drop i waiting))))
               (take-all i waiting (omega (arith, waiting-long p ok)))
-              ∙ take-at (entries s p) (e ∷ map (entryAt s p) (drop i waiting)) k (omega (arith, entries-long s p ok, place-most)));
+              ∙ take-at (entries s p) (e ∷ map (entryAt s p) (drop i waiting)) k (omega (arith, entries-long s p ok, place-most, ok .few)));
         }
 
-    module _ (n : ℕ) (spare : (n < k) × Spare n (p .count) k) (new : i ≡ k → ⊥) where
+    module _ (n : ℕ) (spare : (n < k) × Spare n (p .count) k) (new : i < k) where
       abbrev j : ℕ
       j = getD o n 0
 
       abbrev q : Pool
-      q = filled p s e i n
+      q = filled p s x bytes split mask i n
 
       inside : n < length o
-      inside = omega (arith, ok .slots .long)
+      inside = omega (arith, spare .0, ok .most-high, ok .slots .long)
 
       low : j < 64
-      low = slot-low (ok .slots) n (omega arith)
+      low = slot-low (ok .slots) n (omega (arith, spare .0, ok .most-high))
 
       pub place-before : i ≤ n
       place-before = go (spare .1)
         where
           go : Spare n (p .count) k → i ≤ n
           go (inl h) = omega (arith, place-most)
-          go (inr h) = after-k (decLt i k)
-            where
-              after-k : Dec (i < k) → i ≤ n
-              after-k (yes l) = omega arith
-              after-k (no l) = absurd (new (omega (arith, place-most)))
+          go (inr h) = omega (arith, new)
 
       -- slot j holds the new entry, and every other slot what it held
       entry-new : entryAt s q j ≡ e
       entry-new =
           λ t. record {
             cost = getD-set-same (p .costs) j (e .cost) (pos 0) (omega (arith, low, ok .costs-long)) t;
-            plan = row-same (p .plans) j s (e .plan) (ok .plans-long) low (ready .2) (ready .6) t;
+            plan = row-same (p .plans) j s bytes (ok .plans-long) low short bytes-long t;
             split = getD-set-same (p .splits) j (e .split) 0 (omega (arith, low, ok .splits-long)) t;
             mask = getD-set-same (p .barred) j (e .mask) 0 (omega (arith, low, ok .barred-long)) t;
           }
@@ -174,7 +172,7 @@ module _ (p : Pool) (s k : ℕ) (e : Entry) (ready : Ready p s k (e .plan)) wher
       entry-old z h d =
           λ t. record {
             cost = getD-set-other (p .costs) j z (e .cost) (pos 0) d t;
-            plan = row-other (p .plans) j s (e .plan) (ok .plans-long) low (ready .2) (ready .6) z h d t;
+            plan = row-other (p .plans) j s bytes (ok .plans-long) low short bytes-long z h d t;
             split = getD-set-other (p .splits) j z (e .split) 0 d t;
             mask = getD-set-other (p .barred) j z (e .mask) 0 d t;
           }
@@ -228,19 +226,20 @@ module _ (p : Pool) (s k : ℕ) (e : Entry) (ready : Ready p s k (e .plan)) wher
       filled-formed =
           record {
             costs-long = length-set (p .costs) j (e .cost) ∙ ok .costs-long;
-            plans-long = written-long (p .plans) j s (e .plan) (ok .plans-long) low (ready .2) (ready .6);
+            plans-long = written-long (p .plans) j s bytes (ok .plans-long) low short bytes-long;
             splits-long = length-set (p .splits) j (e .split) ∙ ok .splits-long;
             barred-long = length-set (p .barred) j (e .mask) ∙ ok .barred-long;
-            count-high = omega arith;
+            most-low = ok .most-low;
+            most-high = ok .most-high;
+            few = omega (arith, spare .0);
             slots = up-slots o i n place-before inside (ok .slots);
             ascends = ascends-kept s k e p q (ok .ascends) filled-entries;
           }
 
-      pub filled-inserted : Inserted s k e p q
-      filled-inserted = record { formed = filled-formed; count-high = omega arith; kept = filled-entries }
+      pub filled-inserted : Inserted s e p q
+      filled-inserted = record { formed = filled-formed; same-most = refl; waits = filled-entries }
 
--- k wait, and it costs more than the last
-pub beyond-kept : (p : Pool) (s k : ℕ) (e : Entry) → Formed p → p .count ≤ k → 1 ≤ k
-    → beyondOf (p .count) k (e .cost) (p .costs) (p .order) ≡ true → Inserted s k e p p
-beyond-kept p s k e ok few low h =
-    record { formed = ok; count-high = few; kept = not-kept s k p low (waiting-long p ok) (ok .ascends) e h }
+-- as many wait as may, and it costs more than the last
+pub beyond-kept : (p : Pool) (s : ℕ) (e : Entry) → Formed p → beyondOf (p .count) (p .most) (e .cost) (p .costs) (p .order) ≡ true → Inserted s e p p
+beyond-kept p s e ok h =
+    record { formed = ok; same-most = refl; waits = not-kept s (p .most) p (ok .most-low) (waiting-long p ok) (ok .ascends) e h }

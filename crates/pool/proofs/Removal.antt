@@ -13,11 +13,11 @@ use Rattle.pool.proofs.Moves.{back-slots, first-others, back-first}
 -- the pool with its slots in the order o, of which one less wait
 abbrev pub shorter : Pool → List ℕ → Pool
 shorter p o =
-    record { costs = p .costs; plans = p .plans; splits = p .splits; barred = p .barred; order = o; count = p .count - 1 }
+    record { costs = p .costs; plans = p .plans; splits = p .splits; barred = p .barred; order = o; count = p .count - 1; most = p .most }
 
 module _ (p : Pool) (ok : Formed p) (some : 1 ≤ p .count) (o : List ℕ) (moved : o ≡ movedBack (p .count) (p .order)) where
   high : p .count ≤ length (p .order)
-  high = omega (arith, ok .count-high, ok .slots .long)
+  high = omega (arith, ok .few, ok .most-high, ok .slots .long)
 
   rests : (s : ℕ) → entries s p ≡ firstEntry s p ∷ entries s (shorter p o)
   rests s =
@@ -33,7 +33,9 @@ module _ (p : Pool) (ok : Formed p) (some : 1 ≤ p .count) (o : List ℕ) (move
           plans-long = ok .plans-long;
           splits-long = ok .splits-long;
           barred-long = ok .barred-long;
-          count-high = omega (arith, ok .count-high);
+          most-low = ok .most-low;
+          most-high = ok .most-high;
+          few = omega (arith, ok .few);
           slots = subst Slots (sym moved) (back-slots (p .order) (p .count) some high (ok .slots));
           ascends = ascends-rest 0 p (shorter p o) (firstEntry 0 p) (ok .ascends) (rests 0);
         };

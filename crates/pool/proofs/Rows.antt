@@ -11,7 +11,7 @@ use native.Mathlib.Omega.{arith}
 use borrow.Author.Tests.{le-ltb, eq-eqb, ne-eqb}
 use lib.Dec.{ltb, eqb}
 use lib.ListN.{length, getD, take, drop, length-drop, List·getD-append, drop-of-length-le}
-use lib.Seq.{take-all, drop-cons, drop-at, take-at, length-take-le, length-paste, length-paste-head, getD-take, getD-drop, ext-getD, paste}
+use lib.Seq.{drop-cons, drop-at, take-at, length-take-le, length-paste, length-paste-head, getD-take, getD-drop, ext-getD, paste}
 use Rattle.model.specs.Order.{lower}
 use Rattle.pool.specs.Entries.{row}
 use Rattle.pool.proofs.Lists.{front-at, after-front}
@@ -24,7 +24,7 @@ row-at s plans j i h = getD-take s (drop (j * 64) plans) i 0 h ∙ getD-drop (j 
 
 -- ---- one row written
 
-module _ (plans : List ℕ) (j s : ℕ) (bs : List ℕ) (long : length plans ≡ 4096) (low : j < 64) (short : s ≤ 64) (all : length bs ≡ s) where
+module _ (plans : List ℕ) (j s : ℕ) (bs : List ℕ) (long : length plans ≡ 4096) (low : j < 64) (short : s ≤ 64) (all : s ≤ length bs) where
   abbrev written : List ℕ
   written = paste plans (j * 64) bs s
 
@@ -45,13 +45,12 @@ module _ (plans : List ℕ) (j s : ℕ) (bs : List ℕ) (long : length plans ≡
       (after-front (take (j * 64) plans ++ take s bs) (drop (j * 64 + s) plans) (j * 64 + s) (m - (j * 64 + s)) 0 head-long
       ∙ getD-drop (j * 64 + s) plans (m - (j * 64 + s)) 0)
 
-  pub row-same : row s written j ≡ bs
+  pub row-same : row s written j ≡ take s bs
   row-same =
       ap (take s)
       (ap (drop (j * 64)) (append-assoc (take (j * 64) plans) (take s bs) (drop (j * 64 + s) plans))
       ∙ drop-at (take (j * 64) plans) (take s bs ++ drop (j * 64 + s) plans) (j * 64) (length-take-le (j * 64) plans (omega arith)))
-      ∙ take-at (take s bs) (drop (j * 64 + s) plans) s (length-take-le s bs (omega arith))
-      ∙ take-all s bs (omega arith)
+      ∙ take-at (take s bs) (drop (j * 64 + s) plans) s (length-take-le s bs all)
 
   pub row-other : (k : ℕ) → k < 64 → (k ≡ j → ⊥) → row s written k ≡ row s plans k
   row-other k h d =

@@ -17,11 +17,6 @@ use Rattle.pool.specs.declared.Pool.{Pool}
 
 -- ---- entries
 
--- the pool of these arrays, of which n wait
-abbrev pub poolOf : List ℤ → List ℕ → List ℕ → List ℕ → List ℕ → ℕ → Pool
-poolOf costs plans splits barred order n =
-    record { costs = costs; plans = plans; splits = splits; barred = barred; order = order; count = n }
-
 -- the s bytes of a slot
 abbrev pub row : ℕ → List ℕ → ℕ → List ℕ
 row s plans j = take s (drop (j * 64) plans)
@@ -64,7 +59,9 @@ pub record Formed (p : Pool) : Type 0 where
   pub plans-long : length (p .plans) ≡ 4096
   pub splits-long : length (p .splits) ≡ 64
   pub barred-long : length (p .barred) ≡ 64
-  pub count-high : p .count ≤ 64
+  pub most-low : 1 ≤ p .most
+  pub most-high : p .most ≤ 64
+  pub few : p .count ≤ p .most
   pub slots : Slots (p .order)
   pub ascends : Ascending (costsOf p)
 
@@ -89,11 +86,15 @@ beyondOf n k x costs order = eqb n k && ltZ (getD costs (getD order (k - 1) 0) (
 
 -- ---- a pool and the one that is made of it
 
--- r is p with the entry e inserted, of which the first k are kept
-pub record Inserted (s k : ℕ) (e : Entry) (p r : Pool) : Type 0 where
+-- in r, which keeps as many as p, wait the entries es
+pub record Holding (s : ℕ) (es : List Entry) (p r : Pool) : Type 0 where
   pub formed : Formed r
-  pub count-high : r .count ≤ k
-  pub kept : entries s r ≡ take k (insert earlierEntry e (entries s p))
+  pub same-most : r .most ≡ p .most
+  pub waits : entries s r ≡ es
+
+-- r is p with the entry e inserted, of which the first are kept
+abbrev pub Inserted : ℕ → Entry → Pool → Pool → Type 0
+Inserted s e p r = Holding s (take (p .most) (insert earlierEntry e (entries s p))) p r
 
 -- r is p without the first entry
 pub record Popped (p r : Pool) : Type 0 where

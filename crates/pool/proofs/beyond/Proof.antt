@@ -2,7 +2,7 @@
 -- Assumes nothing.
 use Prim.Native.Nat.{_-_, _<_}
 use native.Mathlib.Omega.{arith}
-use lib.IntN.{ℤ, pos}
+use lib.IntN.{pos}
 use lib.ListN.{getD}
 use borrow.Author.Tests.{eq-eqb, ne-eqb}
 use Rattle.costs.proofs.Sums.{read64}
@@ -14,26 +14,20 @@ use Rattle.pool.proofs.beyond.Tie as tie
 low : (s : tie.Start) → getD (s .args .order .now) (s .args .k - 1) 0 < 64
 low s = slot-low (s .pre .0) (s .args .k - 1) (omega arith)
 
-abbrev last : tie.Start → ℤ
-last s = getD (s .args .costs .now) (getD (s .args .order .now) (s .args .k - 1) 0) (pos 0)
-
 returns : tie.Need-returns
 returns c = rw (ne-eqb (c .before .args .n) (c .before .args .k) (c .if1 .taken))
 
-sub-slot : tie.Need-sub-slot
-sub-slot c = search needs
+sub-slot-at : tie.Need-sub-slot-at
+sub-slot-at c = search needs
 
-mul-slot : tie.Need-mul-slot
-mul-slot c = search needs
-
-element-copy-out-slot : tie.Need-element-copy-out-slot
-element-copy-out-slot c = search needs
+slot-at-requires : tie.Need-slot-at-requires
+slot-at-requires c κs = search needs
 
 mul-last : tie.Need-mul-last
-mul-last c = omega (arith, low (c .before .before))
+mul-last c = omega (arith, low (c .before .before), c .slot-at .ensures)
 
 element-copy-out-last : tie.Need-element-copy-out-last
-element-copy-out-last c = low (c .before .before)
+element-copy-out-last c = omega (arith, low (c .before .before), c .slot-at .ensures)
 
 returns-2 : tie.Need-returns-2
 returns-2 c =
@@ -41,11 +35,11 @@ returns-2 c =
     rw (
       eq-eqb (s .args .n) (s .args .k) (c .before .before .if1 .left),
       read64 (s .args .cost) (s .fits .cost .sfits),
-      read64 (last s)
-          (c .last .given),
+      read64 (getD (s .args .costs .now) (c .before .slot-at .result) (pos 0)) (c .last .given),
+      c .before .slot-at .ensures,
     )
 
 pub beyond-spec : {M : Type 1} → statement M
 beyond-spec =
     tie.close
-    (tie.spec returns sub-slot mul-slot element-copy-out-slot mul-last element-copy-out-last returns-2)
+    (tie.spec returns sub-slot-at slot-at-requires mul-last element-copy-out-last returns-2)

@@ -71,17 +71,14 @@ module _ (t : tie.In-loop Inv-loop μ-loop) where
   cost-is : toZ w64 (ofZ w64 (s .args .cost)) ≡ s .args .cost
   cost-is = read64 (s .args .cost) (s .fits .cost .sfits)
 
-mul-slot : tie.Need-mul-slot Inv-loop μ-loop
-mul-slot c = omega (arith, in-order c)
-
-element-copy-out-slot : tie.Need-element-copy-out-slot Inv-loop μ-loop
-element-copy-out-slot c = in-order c
+slot-at-requires : tie.Need-slot-at-requires Inv-loop μ-loop
+slot-at-requires c κs = in-order c
 
 mul-here : tie.Need-mul-here Inv-loop μ-loop
-mul-here c = omega (arith, low-slot (c .before))
+mul-here c = omega (arith, low-slot (c .before), c .slot-at .ensures)
 
 element-copy-out-here : tie.Need-element-copy-out-here Inv-loop μ-loop
-element-copy-out-here c = low-slot (c .before)
+element-copy-out-here c = omega (arith, low-slot (c .before), c .slot-at .ensures)
 
 add-low : tie.Need-add-low Inv-loop μ-loop
 add-low c = omega (arith, in-order (c .before .before .before))
@@ -97,7 +94,8 @@ loop-again c =
     let t = o .before .before in (
       omega (arith, below t),
       t .before .loop .inv .1,
-      rw (cost-is t) (more t (rw (cost-is t, read64 (getD (s t .args .costs .now) (getD (s t .args .order .now) (m t) 0) (pos 0)) (o .here .given))
+      rw (cost-is t) (more t
+          (rw (cost-is t, read64 (getD (s t .args .costs .now) (o .before .slot-at .result) (pos 0)) (o .here .given), o .before .slot-at .ensures)
           at (c .if1 .taken))),
     )
 
@@ -125,8 +123,7 @@ cheaper-spec =
     μ-loop
     loop-holds
     add-middle
-    mul-slot
-    element-copy-out-slot
+    slot-at-requires
     mul-here
     element-copy-out-here
     add-low

@@ -22,16 +22,16 @@ element-copy-out-other c = search needs
 -- the two costs as they were read
 module _ (c : tie.After-other) where
   abbrev x : ℤ
-  x = c .before .before .args .cost
+  x = c .before .args .cost
 
   abbrev y : ℤ
-  y = getD (c .before .before .args .costs .now) (c .before .before .args .j) (pos 0)
+  y = getD (c .before .args .costs .now) (c .before .args .j) (pos 0)
 
   below : (t : Bool) → ltZ (toZ w64 (ofZ w64 x)) (toZ w64 (ofZ w64 y)) ≡ t → ltZ x y ≡ t
-  below t e = rw (read64 x (c .before .before .fits .cost .sfits), read64 y (c .other .given)) at e
+  below t e = rw (read64 x (c .before .fits .cost .sfits), read64 y (c .other .given)) at e
 
   above : (t : Bool) → ltZ (toZ w64 (ofZ w64 y)) (toZ w64 (ofZ w64 x)) ≡ t → ltZ y x ≡ t
-  above t e = rw (read64 x (c .before .before .fits .cost .sfits), read64 y (c .other .given)) at e
+  above t e = rw (read64 x (c .before .fits .cost .sfits), read64 y (c .other .given)) at e
 
 returns : tie.Need-returns
 returns c = rw (below (c .before) true (c .if1 .taken))

@@ -26,8 +26,8 @@ zeros-requires c κs = search needs
 loop-holds : tie.Need-loop-holds Inv-loop μ-loop
 loop-holds c = (omega arith, ap length (c .zeros .ensures), refl)
 
-mul-order : tie.Need-mul-order Inv-loop μ-loop
-mul-order c = search needs
+cast-order : tie.Need-cast-order Inv-loop μ-loop
+cast-order c = search needs
 
 array-write-order : tie.Need-array-write-order Inv-loop μ-loop
 array-write-order c = search needs
@@ -63,7 +63,7 @@ first-order-spec =
     μ-loop
     zeros-requires
     loop-holds
-    mul-order
+    cast-order
     array-write-order
     add-i
     loop-less

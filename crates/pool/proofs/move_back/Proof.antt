@@ -26,14 +26,8 @@ loop-holds c = (omega arith, refl)
 add-order : tie.Need-add-order Inv-loop μ-loop
 add-order c = search needs
 
-mul-order : tie.Need-mul-order Inv-loop μ-loop
-mul-order c = search needs
-
 element-copy-out-order : tie.Need-element-copy-out-order Inv-loop μ-loop
 element-copy-out-order c = search needs
-
-mul-order-2 : tie.Need-mul-order-2 Inv-loop μ-loop
-mul-order-2 c = search needs
 
 element-write-order : tie.Need-element-write-order Inv-loop μ-loop
 element-write-order c = search needs
@@ -49,9 +43,6 @@ loop-again c =
     let l = c .before .before in
     let s = l .before .before in
     (omega arith, rw (l .loop .inv .1) (to-more (s .args .order .now) (l .loop .t) (omega arith)))
-
-mul-order-3 : tie.Need-mul-order-3 Inv-loop μ-loop
-mul-order-3 c = search needs
 
 element-write-order-2 : tie.Need-element-write-order-2 Inv-loop μ-loop
 element-write-order-2 c = search needs
@@ -73,13 +64,10 @@ move-back-spec =
     sub-last
     loop-holds
     add-order
-    mul-order
     element-copy-out-order
-    mul-order-2
     element-write-order
     add-t
     loop-less
     loop-again
-    mul-order-3
     element-write-order-2
     returns)

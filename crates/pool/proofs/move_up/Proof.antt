@@ -14,9 +14,6 @@ Inv-loop order₀ i n slot t₀ order t = (i ≤ t) × (t ≤ n) × (order ≡ m
 abbrev μ-loop : tie.MeasureT-loop
 μ-loop order₀ i n slot t₀ order t = t
 
-mul-slot : tie.Need-mul-slot Inv-loop μ-loop
-mul-slot c = search needs
-
 element-copy-out-slot : tie.Need-element-copy-out-slot Inv-loop μ-loop
 element-copy-out-slot c = search needs
 
@@ -26,14 +23,8 @@ loop-holds c = (omega arith, omega arith, from-start (c .before .args .order .no
 sub-order : tie.Need-sub-order Inv-loop μ-loop
 sub-order c = search needs
 
-mul-order : tie.Need-mul-order Inv-loop μ-loop
-mul-order c = search needs
-
 element-copy-out-order : tie.Need-element-copy-out-order Inv-loop μ-loop
 element-copy-out-order c = search needs
-
-mul-order-2 : tie.Need-mul-order-2 Inv-loop μ-loop
-mul-order-2 c = search needs
 
 element-write-order : tie.Need-element-write-order Inv-loop μ-loop
 element-write-order c = search needs
@@ -53,9 +44,6 @@ loop-again c =
       rw (l .loop .inv .2) (from-more (s .args .order .now) (s .args .n) (l .loop .t) (omega arith) (omega arith) (omega arith)),
     )
 
-mul-order-3 : tie.Need-mul-order-3 Inv-loop μ-loop
-mul-order-3 c = search needs
-
 element-write-order-2 : tie.Need-element-write-order-2 Inv-loop μ-loop
 element-write-order-2 c = search needs
 
@@ -72,17 +60,13 @@ move-up-spec =
     (tie.spec
     Inv-loop
     μ-loop
-    mul-slot
     element-copy-out-slot
     loop-holds
     sub-order
-    mul-order
     element-copy-out-order
-    mul-order-2
     element-write-order
     sub-t
     loop-less
     loop-again
-    mul-order-3
     element-write-order-2
     returns)

@@ -19,29 +19,27 @@ use Rattle.pool.proofs.place.Statement.{statement}
 use Rattle.pool.proofs.place.Tie as tie
 
 abbrev Inv-loop : tie.InvT-loop
-Inv-loop costs plans order n s cost plan i₀ i =
+Inv-loop costs plans order n s cost bytes i₀ i =
     (i ≤ n)
-    × (firstYes (earlierThan (toZ w64 cost) plan s costs plans) (take n order)
-    ≡ i + firstYes (earlierThan (toZ w64 cost) plan s costs plans) (drop i (take n order)))
+    × (firstYes (earlierThan (toZ w64 cost) (take s bytes) s costs plans) (take n order)
+    ≡ i + firstYes (earlierThan (toZ w64 cost) (take s bytes) s costs plans) (drop i (take n order)))
 
 abbrev μ-loop : tie.MeasureT-loop
-μ-loop costs plans order n s cost plan i₀ i = n - i
+μ-loop costs plans order n s cost bytes i₀ i = n - i
 
 cheaper-requires : tie.Need-cheaper-requires Inv-loop μ-loop
 cheaper-requires c κs =
-    let h = c .before .pre in
+    let h = c .pre in
     (h .1, h .2, h .5)
 
-mul-earlier : tie.Need-mul-earlier Inv-loop μ-loop
-mul-earlier c = search needs
-
-element-copy-out-earlier : tie.Need-element-copy-out-earlier Inv-loop μ-loop
-element-copy-out-earlier c = search needs
+slot-at-requires : tie.Need-slot-at-requires Inv-loop μ-loop
+slot-at-requires c κs = search needs
 
 earlier-requires : tie.Need-earlier-requires Inv-loop μ-loop
 earlier-requires c κs =
-    let s = c .before .before .before .before .before in
-    (s .pre .0, slot-low (s .pre .1) (c .before .before .loop .i) (omega arith), s .pre .3, s .pre .4)
+    let l = c .before .before in
+    let s = l .before .before in
+    (s .pre .0, omega (arith, c .slot-at .ensures, slot-low (s .pre .1) (l .loop .i) (omega arith)), s .pre .3, s .pre .4)
 
 -- the slots that are searched
 module _ (s : tie.Start Inv-loop μ-loop) where
@@ -52,7 +50,7 @@ module _ (s : tie.Start Inv-loop μ-loop) where
   cost-is = read64 (s .args .cost) (s .fits .cost .sfits)
 
   abbrev test : ℕ → Bool
-  test = earlierThan (toZ w64 (ofZ w64 (s .args .cost))) (s .args .plan .now) (s .args .s) (s .args .costs .now) (s .args .plans .now)
+  test = earlierThan (toZ w64 (ofZ w64 (s .args .cost))) (take (s .args .s) (s .args .bytes .now)) (s .args .s) (s .args .costs .now) (s .args .plans .now)
 
   long : length xs ≡ s .args .n
   long = length-take-le (s .args .n) (s .args .order .now) (omega (arith, s .pre .1 .long))
@@ -65,23 +63,23 @@ module _ (s : tie.Start Inv-loop μ-loop) where
 
 loop-holds : tie.Need-loop-holds Inv-loop μ-loop
 loop-holds c =
-    let s = c .before .before in
+    let s = c .before in
     let i = c .cheaper .result in
     let e = rw (cost-is s) at (c .cheaper .ensures) in (
       e .0,
       rw (cost-is s)
-          (yes-skip (earlierThan (s .args .cost) (s .args .plan .now) (s .args .s) (s .args .costs .now) (s .args .plans .now)) (xs s) i
+          (yes-skip (earlierThan (s .args .cost) (take (s .args .s) (s .args .bytes .now)) (s .args .s) (s .args .costs .now) (s .args .plans .now)) (xs s) i
           (omega (arith, long s, e .0))
-          (cheaper-no (s .args .costs .now) (s .args .plans .now) (s .args .plan .now) (s .args .s) (s .args .cost) (take i (xs s)) (e .1))),
+          (cheaper-no (s .args .costs .now) (s .args .plans .now) (take (s .args .s) (s .args .bytes .now)) (s .args .s) (s .args .cost) (take i (xs s)) (e .1))),
     )
 
 returns : tie.Need-returns Inv-loop μ-loop
 returns c =
     let l = c .before .before .before .before in
-    let s = l .before .before .before in
+    let s = l .before .before in
     rw (← cost-is s)
     (yes-here (test s) (xs s) (l .loop .i) (inside s (l .loop .i) (omega arith))
-    (ap (test s) (at s (l .loop .i) (omega arith)) ∙ sym (c .before .earlier .ensures) ∙ c .if1 .taken)
+    (ap (test s) (at s (l .loop .i) (omega arith) ∙ sym (c .before .before .slot-at .ensures)) ∙ sym (c .before .earlier .ensures) ∙ c .if1 .taken)
     ∙ sym (l .loop .inv .1))
 
 add-i : tie.Need-add-i Inv-loop μ-loop
@@ -93,17 +91,17 @@ loop-less c = omega arith
 loop-again : tie.Need-loop-again Inv-loop μ-loop
 loop-again c =
     let l = c .before .before .before .before in
-    let s = l .before .before .before in (
+    let s = l .before .before in (
       omega arith,
       l .loop .inv .1
           ∙ yes-later (test s) (xs s) (l .loop .i) (inside s (l .loop .i) (omega arith))
-          (ap (test s) (at s (l .loop .i) (omega arith)) ∙ sym (c .before .earlier .ensures) ∙ c .if1 .left),
+          (ap (test s) (at s (l .loop .i) (omega arith) ∙ sym (c .before .before .slot-at .ensures)) ∙ sym (c .before .earlier .ensures) ∙ c .if1 .left),
     )
 
 returns-2 : tie.Need-returns-2 Inv-loop μ-loop
 returns-2 c =
     let l = c .before in
-    let s = l .before .before .before in
+    let s = l .before .before in
     rw (← cost-is s) (sym (l .loop .inv .1 ∙ yes-none (test s) (xs s) (l .loop .i) (omega (arith, long s))))
 
 pub place-spec : {M : Type 1} → statement M
@@ -114,8 +112,7 @@ place-spec =
     μ-loop
     cheaper-requires
     loop-holds
-    mul-earlier
-    element-copy-out-earlier
+    slot-at-requires
     earlier-requires
     returns
     add-i

@@ -10,19 +10,19 @@ use Rattle.pool.proofs.write_row.Statement.{statement}
 use Rattle.pool.proofs.write_row.Tie as tie
 
 abbrev Inv-loop : tie.InvT-loop
-Inv-loop plans₀ j s plan base i₀ plans i = (i ≤ s) × (plans ≡ paste plans₀ (j * 64) plan i)
+Inv-loop plans₀ j s bytes base i₀ plans i = (i ≤ s) × (plans ≡ paste plans₀ (j * 64) bytes i)
 
 abbrev μ-loop : tie.MeasureT-loop
-μ-loop plans₀ j s plan base i₀ plans i = s - i
+μ-loop plans₀ j s bytes base i₀ plans i = s - i
 
 mul-base : tie.Need-mul-base Inv-loop μ-loop
 mul-base c = search needs
 
 loop-holds : tie.Need-loop-holds Inv-loop μ-loop
-loop-holds c = (omega arith, paste-zero (c .args .plans .now) (c .args .j * 64) (c .args .plan .now))
+loop-holds c = (omega arith, paste-zero (c .args .plans .now) (c .args .j * 64) (c .args .bytes .now))
 
-shared-slice-read-plans : tie.Need-shared-slice-read-plans Inv-loop μ-loop
-shared-slice-read-plans c = search needs
+element-copy-out-plans : tie.Need-element-copy-out-plans Inv-loop μ-loop
+element-copy-out-plans c = search needs
 
 add-plans : tie.Need-add-plans Inv-loop μ-loop
 add-plans c = search needs
@@ -41,7 +41,7 @@ loop-again c =
     let l = c .before .before in
     let s = l .before .args in (
       omega arith,
-      rw (l .loop .inv .1, add-one) (paste-suc (s .plans .now) (s .j * 64) (s .plan .now) (l .loop .i) 0 (omega arith) (omega arith)),
+      rw (l .loop .inv .1, add-one) (paste-suc (s .plans .now) (s .j * 64) (s .bytes .now) (l .loop .i) 0 (omega arith) (omega arith)),
     )
 
 returns : tie.Need-returns Inv-loop μ-loop
@@ -57,7 +57,7 @@ write-row-spec =
     μ-loop
     mul-base
     loop-holds
-    shared-slice-read-plans
+    element-copy-out-plans
     add-plans
     element-write-plans
     add-i
