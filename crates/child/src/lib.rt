@@ -1,13 +1,34 @@
-// The cost of a child of a candidate: its parent's, moved by the reach weight of the split state times the difference of the two actions' costs.
+// The child of a candidate at a state: its action, its barred actions, and its cost, which is its parent's, moved by the reach weight of the split state
+// times the difference of the two actions' costs.
+use book::Sizes;
 ghost use mathlib.Core.Path.{_≡_};
 ghost use mathlib.Core.Bool.{cond};
-ghost use Prim.Native.Nat.{_<_};
+ghost use Prim.Native.Nat.{_<_, _≤_};
 ghost use lib.IntN.{pos, _+ℤ_, _-ℤ_, _*ℤ_};
 ghost use lib.Dec.{eqb};
 ghost use lib.ListN.{getD};
+ghost use Rattle.model.specs.Model.{stateCount};
+ghost use Rattle.model.specs.Questions.{bookNumber};
+ghost use Rattle.book.specs.Read.{SizesAre};
 ghost use Rattle.masks.specs.Masks.{with};
 ghost use Rattle.table.specs.Table.{rowOf};
+ghost use Rattle.build.specs.Best.{RowsOf};
 ghost use Rattle.child.specs.Move.{Movable};
+ghost use Rattle.child.specs.Children.{Parenting, entryOf, ChildIs};
+
+// The candidate whose first policy is listed: its cost, its split state and the set of actions barred there. Its bytes are lent beside it.
+pub struct Parent {
+    pub cost: i64,
+    pub split: usize,
+    pub mask: u8,
+}
+
+// A child: its cost, the action that it takes at its split state and the set of actions barred there.
+pub struct Child {
+    pub cost: i64,
+    pub action: usize,
+    pub mask: u8,
+}
 
 fn moved(cost: i64, w: usize, new: i64, old: i64) -> i64
     requires { ⌜ Movable cost w new old ⌝ }
@@ -33,4 +54,46 @@ pub fn mask_at(split: usize, mask: u8, p: usize, f: usize) -> u8
         return masks::bar(mask, f as u8);
     }
     masks::bar(0, f as u8)
+}
+
+// No child: its action is 255.
+fn no_child() -> Child
+    ensures { λ r. ⌜ r .action ≡ 255 ⌝ }
+{
+    Child {
+        cost: 0,
+        action: 255,
+        mask: 0,
+    }
+}
+
+// The child of e at state p, if e reaches p and an action is left there.
+fn child_at(
+    b: &[i32],
+    z: Sizes,
+    q: &[i64; 512],
+    w: &[usize; 64],
+    plan: &[u8],
+    e: Parent,
+    p: usize,
+) -> Child
+    requires { ⌜ (bookNumber (now b) ≡ 0) × SizesAre (now b) z × RowsOf (now b) (now q) × Parenting (now b) e (now plan) (now w) × (e .split ≤ p) × (p < stateCount (now b)) ⌝ }
+    ensures { λ r. ⌜ ChildIs (now (b .entry)) (entryOf e (now (plan .entry))) p r ⌝ }
+{
+    let f = plan[p] as usize;
+    if f == 255 {
+        return no_child();
+    }
+    let mask = mask_at(e.split, e.mask, p, f);
+    let n = index::count(b, z, p);
+    let c = table::best_action(q, p, n, mask);
+    if c == 255 {
+        return no_child();
+    }
+    let cost = child_cost(q, w, p, c, f, e.cost);
+    Child {
+        cost: cost,
+        action: c,
+        mask: mask,
+    }
 }

@@ -1,5 +1,3 @@
-pub mod Children
-pub mod State
 pub mod Start
 pub mod States
 pub mod First

@@ -1,96 +1,57 @@
 -- What the search asks of its parts and what each step makes of the pool.
 -- Assumes nothing.
 use mathlib.Core.Path.{_≡_}
-use mathlib.Core.Bool.{cond}
-use mathlib.Core.Logic.{_⊎_}
+use mathlib.Core.Bool.{Bool, cond, not, _&&_}
 use mathlib.Core.List.{List, [], _∷_, map}
-use Prim.Native.Nat.{ℕ, _+_, _-_, _≤_, _<_}
+use Prim.Native.Nat.{ℕ, _+_, _*_, _≤_, _<_}
 use lib.IntN.{ℤ}
 use lib.Dec.{eqb}
-use lib.ListN.{length, take}
-use Rattle.model.specs.Lists.{insert, forEach}
-use Rattle.model.specs.Path.{byteAt}
-use Rattle.model.specs.Recursion.{bestOf, through}
+use lib.ListN.{length, set, take}
+use Rattle.model.specs.Lists.{forEach}
 use Rattle.model.specs.Order.{ranking, rankingCosts}
 use Rattle.model.specs.Calls.{over}
-use Rattle.accepted.specs.Demands.{bestPolicy}
-use Rattle.laws.specs.Members.{In}
-use Rattle.model.specs.Model.{Words, scale, stateCount, togo, actionCount, action, options}
+use Rattle.model.specs.Model.{Words, stateCount}
 use Rattle.model.specs.Questions.{bookNumber}
 use Rattle.model.specs.Policy.{Policy}
+use Rattle.accepted.specs.Demands.{bestPolicy}
+use Rattle.laws.specs.Members.{Every}
 use Rattle.book.specs.Read.{SizesAre}
 use Rattle.book.specs.declared.Sizes.{Sizes}
 use Rattle.index.specs.Index.{IndexOf}
 use Rattle.nexts.specs.Nexts.{NextsOf}
 use Rattle.build.specs.Best.{RowsOf, BestOf}
-use Rattle.build.specs.Walk.{walkBy, chosen}
-use Rattle.reach.specs.Weights.{WeightsOf}
-use Rattle.stored.specs.Entry.{Entry, earlierEntry}
-use Rattle.pool.specs.Entries.{Formed}
+use Rattle.bytes_io.specs.Slices.{written}
+use Rattle.pool.specs.Entries.{entries, firstEntry, Formed, beyondOf, Holding}
 use Rattle.pool.specs.declared.Pool.{Pool}
 use Rattle.splits.specs.Search.{admit}
-use Rattle.stored.specs.Lists.{left}
-use Rattle.stored.specs.Children.{costOf, Right, maskAt, childEntry, addIf, splitsAt, childEntries}
-use Rattle.stored.specs.Runs.{itself, childrenOf, planOf, costIn}
-use Rattle.engine.specs.declared.Parent.{Parent}
-use Rattle.engine.specs.declared.Child.{Child}
+use Rattle.stored.specs.Entry.{Entry, earlierEntry}
+use Rattle.stored.specs.Children.{costOf, Right, childEntries}
+use Rattle.stored.specs.Runs.{itself, childrenOf, runEntries, planOf, costIn}
+use Rattle.child.specs.declared.Child.{Child}
 
--- a checked book with its sizes, its index, its table of action costs and its first best actions
-pub record Ready (ws : Words) (z : Sizes) (x nx : List ℕ) (q : List ℤ) (best : List ℕ) : Type 0 where
+-- a checked book with its sizes, its sets of next states, its table of action costs and its first best actions
+pub record Tables (ws : Words) (z : Sizes) (nx : List ℕ) (q : List ℤ) (best : List ℕ) : Type 0 where
   pub ok : bookNumber ws ≡ 0
   pub sizes : SizesAre ws z
-  pub index : IndexOf ws x
   pub next : NextsOf ws nx
   pub rows : RowsOf ws q
   pub firsts : BestOf ws best
 
-abbrev pub entryOf : Parent → Policy → Entry
-entryOf e bs = record { cost = e .cost; plan = bs; split = e .split; mask = e .mask }
+-- and its index
+pub record Ready (ws : Words) (z : Sizes) (x nx : List ℕ) (q : List ℤ) (best : List ℕ) : Type 0 where
+  pub tables : Tables ws z nx q best
+  pub index : IndexOf ws x
 
--- a listed candidate with its bytes and their reach weights
-pub record Parenting (ws : Words) (e : Parent) (bs : Policy) (w : List ℕ) : Type 0 where
-  pub right : Right ws (entryOf e bs)
-  pub weights : WeightsOf ws bs w
+-- the row r begins with the bytes bs
+pub record RowOf (bs r : List ℕ) : Type 0 where
+  pub long : length r ≡ 64
+  pub begins : take (length bs) r ≡ bs
 
--- a pool that holds at most k
-pub record Waiting (k : ℕ) (p : Pool) : Type 0 where
-  pub k-low : 1 ≤ k
-  pub k-high : k ≤ 64
-  pub formed : Formed p
-  pub few : p .count ≤ k
+-- there is a child d, and it may be kept where n of k wait
+abbrev pub mayEnter : List ℤ → List ℕ → ℕ → ℕ → Child → Bool
+mayEnter costs order n k d = not (eqb (d .action) 255) && not (beyondOf n k (d .cost) costs order)
 
--- e is split at state p, where c is the next best action after those barred, `mask` among them its own
-pub record ChildAt (ws : Words) (e : Entry) (p c mask : ℕ) : Type 0 where
-  pub state : p < stateCount ws
-  pub from : e .split ≤ p
-  pub own : byteAt (e .plan) p < actionCount ws p
-  pub mask-is : mask ≡ maskAt e p
-  pub next : c ≡ bestOf (through (scale ws) (action ws) (options ws) (togo ws p) p) (left ws p (maskAt e p))
-  pub some : In c (left ws p (maskAt e p))
-
--- the child d of the bytes bs, split at state p
-abbrev pub childOf : Words → Policy → ℕ → Child → Entry
-childOf ws bs p d =
-    record { cost = d .cost; plan = walkBy (action ws) (chosen ws bs p (d .action)) (stateCount ws) 0 (0 ∷ []); split = p; mask = d .mask }
-
--- the entries after d joined them
-abbrev pub joined : ℕ → Entry → List Entry → List Entry
-joined k d es = take k (insert earlierEntry d es)
-
--- the entries after the child of e at state p joined them, if there is one
-abbrev pub admitted : Words → ℕ → Entry → ℕ → List Entry → List Entry
-admitted ws k e p es = admit earlierEntry itself k (addIf (splitsAt e p) (left ws p (maskAt e p)) (childEntry ws e p) []) es
-
--- the entries after d joined them, if it is a child: the action 255 stands for none
-abbrev pub joinedIf : ℕ → Words → Policy → ℕ → Child → List Entry → List Entry
-joinedIf k ws bs p d es = cond (eqb (d .action) 255) es (joined k (childOf ws bs p d) es)
-
--- d is the child of e at state p, or none where there is none
-pub record ChildIs (ws : Words) (e : Entry) (p : ℕ) (d : Child) : Type 0 where
-  pub joins : (k : ℕ) (es : List Entry) → joinedIf k ws (e .plan) p d es ≡ admitted ws k e p es
-  pub below : (d .action ≡ 255) ⊎ (d .action < actionCount ws p)
-
--- after all those of the n states from p on
+-- the entries after the children of e at the n states from p on joined them
 abbrev pub admittedFrom : Words → ℕ → Entry → ℕ → ℕ → List Entry → List Entry
 admittedFrom ws k e p n es = admit earlierEntry itself k (childEntries ws e p n) es
 
@@ -99,9 +60,32 @@ abbrev pub splitPool : Words → ℕ → List Entry → List Entry
 splitPool ws k [] = []
 splitPool ws k (e ∷ es) = admit earlierEntry itself k (childrenOf ws e) es
 
--- the entries after policy j of k was listed: after the last none is split
+-- the entries after the first was listed as policy j of k: after the last none is split
 abbrev pub restPool : Words → ℕ → ℕ → List Entry → List Entry
-restPool ws k j es = cond (eqb (j + 1) k) es (splitPool ws k es)
+restPool ws k j [] = []
+restPool ws k j (e ∷ es) = cond (eqb (j + 1) k) es (splitPool ws k (e ∷ es))
+
+-- what is asked where policy j is listed: some candidate waits, the first is right, and there is room for it
+pub record Listable (ws : Words) (j : ℕ) (p : Pool) (costs : List ℤ) (plans : List ℕ) : Type 0 where
+  pub formed : Formed p
+  pub some : 1 ≤ p .count
+  pub right : Right ws (firstEntry (stateCount ws) p)
+  pub more : j < p .most
+  pub costs-room : j < length costs
+  pub plans-room : j * stateCount ws + stateCount ws ≤ length plans
+
+-- the first candidate of p is listed as policy j, and r is what waits after it
+pub record ListedOne (ws : Words) (j : ℕ) (p r : Pool) (costs costs′ : List ℤ) (plans plans′ : List ℕ) : Type 0 where
+  pub pool-is : Holding (stateCount ws) (restPool ws (p .most) j (entries (stateCount ws) p)) p r
+  pub cost-is : costs′ ≡ set costs j (firstEntry (stateCount ws) p .cost)
+  pub plan-is : plans′ ≡ written plans (j * stateCount ws) (stateCount ws) (firstEntry (stateCount ws) p .plan)
+
+-- what the search asks: every candidate that waits is right, and there is room for as many as may wait
+pub record Searchable (ws : Words) (p : Pool) (costs : List ℤ) (plans : List ℕ) : Type 0 where
+  pub formed : Formed p
+  pub rights : Every (Right ws) (entries (stateCount ws) p)
+  pub costs-room : p .most ≤ length costs
+  pub plans-room : p .most * stateCount ws ≤ length plans
 
 -- the bytes of the policies of entries, one after the other
 abbrev pub plansIn : List Entry → List ℕ

@@ -14,11 +14,11 @@ use Rattle.costs.proofs.Sums.{read64}
 use Rattle.table.specs.Table.{rowOf}
 use Rattle.stored.specs.Entry.{Entry}
 use Rattle.stored.specs.Children.{childEntry}
-use Rattle.engine.specs.Engine.{ChildAt, entryOf, joined, admitted}
-use Rattle.engine.proofs.Children.{in-plan, Facts, facts, made-is, if-some, none-is}
-use Rattle.engine.proofs.State.{unreached, small, below-64, few-actions, none, child-at, one}
-use Rattle.engine.proofs.child_at.Statement.{statement}
-use Rattle.engine.proofs.child_at.Tie as tie
+use Rattle.child.specs.Children.{ChildAt, entryOf, joined, admitted}
+use Rattle.child.proofs.Children.{in-plan, Facts, facts, made-is, if-some, none-is}
+use Rattle.child.proofs.State.{unreached, small, below-64, few-actions, none, child-at, one}
+use Rattle.child.proofs.child_at.Statement.{statement}
+use Rattle.child.proofs.child_at.Tie as tie
 
 abbrev ws : tie.Start → Words
 ws s = s .args .b .now

@@ -32,17 +32,15 @@ use Rattle.reach.specs.Weights.{WeightsOf}
 use Rattle.value.proofs.Bytes.{byte-is, policy-long, byte-cases}
 use Rattle.splits.specs.Parts.{Reaches}
 use Rattle.stored.specs.Entry.{Entry, earlierEntry}
-use Rattle.pool.specs.declared.Pool.{Pool}
-use Rattle.pool.specs.Entries.{entries, Inserted}
 use Rattle.stored.specs.Lists.{left, listsOf}
 use Rattle.stored.specs.Children.{Right, maskAt, childEntry, plan-model, child-right}
 use Rattle.stored.specs.Costs.{cost-moves}
 use Rattle.child.specs.Move.{Movable}
 use Rattle.child.proofs.Moves.{movable}
 use Rattle.child.proofs.Plans.{child-plan}
 use Rattle.child.proofs.Splits.{reaches-here}
-use Rattle.engine.specs.Engine.{ChildAt, childOf, joined, joinedIf, admitted, ChildIs}
-use Rattle.engine.specs.declared.Child.{Child}
+use Rattle.child.specs.Children.{ChildAt, childOf, joined, joinedIf, admitted, ChildIs}
+use Rattle.child.specs.declared.Child.{Child}
 
 -- the actions that a set leaves are actions
 pub free-under : (n mask i m : ℕ) → i + m ≤ n → Every (λ c. c < n) (free mask i m)
@@ -138,15 +136,6 @@ module _ (ws : Words) (ok : bookNumber ws ≡ 0) (q : List ℤ) (rows : RowsOf w
           child-long = child-long;
           child-fits = fits (childEntry ws e p) child-right′;
         }
-
--- an entry that joins the pool, by what is equal to its parts
-pub added : {s k : ℕ} {x : ℤ} {bs : List ℕ} {p a : ℕ} {P r : Pool} (S : ℕ) (e : Entry) → s ≡ S → x ≡ e .cost → bs ≡ e .plan → p ≡ e .split → a
-    ≡ e .mask
-    → Inserted s k (record { cost = x; plan = bs; split = p; mask = a }) P r → entries S r ≡ take k (insert earlierEntry e (entries S P))
-added {s} {k} {x} {bs} {p} {a} {P} {r} S e hs hx hb hp ha i =
-    subst (λ (d : Entry). entries S r ≡ take k (insert earlierEntry d (entries S P)))
-    (λ t. record { cost = hx t; plan = hb t; split = hp t; mask = ha t })
-    (subst (λ (n : ℕ). entries n r ≡ take k (insert earlierEntry (record { cost = x; plan = bs; split = p; mask = a }) (entries n P))) hs (i .kept))
 
 -- the child that is made is the child of e
 pub made-is : (ws : Words) (q : List ℤ) (e : Entry) (w : List ℕ) (p c f : ℕ) {x : ℤ} {m : ℕ} → Facts ws q e w p c f → x ≡ childEntry ws e p .cost

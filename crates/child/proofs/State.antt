@@ -24,9 +24,9 @@ use Rattle.stored.specs.Entry.{Entry, earlierEntry}
 use Rattle.stored.specs.Lists.{left}
 use Rattle.stored.specs.Children.{Right, maskAt, childEntry}
 use Rattle.stored.specs.Runs.{itself}
 use Rattle.child.proofs.Splits.{none-unreached, none-left, own-action, own-small, one-child}
-use Rattle.engine.specs.Engine.{ChildAt, joined, admitted}
-use Rattle.engine.proofs.Children.{free-under, in-plan}
+use Rattle.child.specs.Children.{ChildAt, joined, admitted}
+use Rattle.child.proofs.Children.{free-under, in-plan}
 
 module _ (ws : Words) (ok : bookNumber ws ≡ 0) (q : List ℤ) (rows : RowsOf ws q) (e : Entry) (ri : Right ws e) (p : ℕ)
     (from : e .split ≤ p) (state : p < stateCount ws) (k : ℕ) (es : List Entry) where
