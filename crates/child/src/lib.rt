@@ -68,7 +68,7 @@ fn no_child() -> Child
 }
 
 // The child of e at state p, if e reaches p and an action is left there.
-fn child_at(
+pub fn child_at(
     b: &[i32],
     z: Sizes,
     q: &[i64; 512],

@@ -12,7 +12,7 @@ use Rattle.model.specs.Model.{Words}
 use Rattle.costs.proofs.Sums.{read64}
 use Rattle.stored.specs.Entry.{Entry}
 use Rattle.stored.specs.Children.{Right}
-use Rattle.engine.proofs.Children.{fits}
+use Rattle.child.proofs.Children.{fits}
 
 module _ (ws : Words) (ok : bookNumber ws ≡ 0) (q : List ℤ) (rows : RowsOf ws q) (d : Entry) (ri : Right ws d) where
   pub cost-read : {r : ℤ} → r ≡ d .cost → toZ w64 (ofZ w64 r) ≡ d .cost

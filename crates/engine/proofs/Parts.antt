@@ -8,6 +8,7 @@ use lib.ListN.{length, take, drop, length-drop, length-append}
 use lib.Seq.{length-take-le, take-at, drop-at}
 use borrow.Rule.Slice.PartMut.{putMid, same-len-mid, post-is}
 use Rattle.bytes_io.specs.Slices.{written}
+use Rattle.engine.specs.Engine.{RowOf}
 
 module _ (o : List ℕ) (a s S : ℕ) (same : s ≡ S) (room : a + s ≤ length o) where
   pub part-long : length (take (a + s - a) (drop a o)) ≡ s
@@ -30,15 +31,13 @@ module _ (o : List ℕ) (a s S : ℕ) (same : s ≡ S) (room : a + s ≤ length 
         ∙ take-at ys (drop (a + s - a) (drop a o)) (a + s - a) k ∙ e
 
 -- bytes that stand before the rest of a row
-module _ {o : List ℕ} (n : ℕ) (rest bs : List ℕ) (e : o ≡ bs) (long : length bs ≡ n) where
-  same-long : length o ≡ n
-  same-long = ap length e ∙ long
+pub row-is : {o : List ℕ} (n : ℕ) (row bs : List ℕ) → o ≡ bs → length bs ≡ n → length row ≡ 64 → n ≤ 64 → RowOf bs (o ++ drop n row)
+row-is {o} n row bs e long all few =
+    let same : length o ≡ length bs = ap length e in
+    record {
+      long = simp (length-append, length-drop) (omega arith);
+      begins = take-at o (drop n row) (length bs) same ∙ e;
+    }
 
-  pub grown : n ≤ length (o ++ rest)
-  grown = omega (arith, length-append o rest, same-long)
-
-  pub front : take n (o ++ rest) ≡ bs
-  front = take-at o rest n same-long ∙ e
-
-  pub front-long : length (take n (o ++ rest)) ≡ n
-  front-long = ap length (take-at o rest n same-long) ∙ same-long
+pub row-take : {bs r : List ℕ} (n : ℕ) → RowOf bs r → length bs ≡ n → take n r ≡ bs
+row-take {bs} {r} n h long = ap (λ (m : ℕ). take m r) (sym long) ∙ h .begins

@@ -46,9 +46,9 @@ module _ (ws : Words) (ok : bookNumber ws ≡ 0) where
       ∙ sym (first-cost (scale ws) (stateCount ws) (action ws) (togo ws) (shape ws ok) (λ p. p < stateCount ws) (options ws) (lists ws ok)))
       ∙ read64 (costOf ws (bestPolicy ws)) (small .sfits)
 
-  pub ranked : (k n : ℕ) (es : List Entry) (costs costs′ : List ℤ) (plans plans′ : List ℕ) → es ≡ firstCandidate ws ∷ []
-      → Found (runEntries ws k k es) n costs costs′ plans plans′ → Ranked ws k n costs costs′ plans plans′
-  ranked k n es costs costs′ plans plans′ h f =
+  pub ranked : {m : ℕ} {es : List Entry} {costs costs′ : List ℤ} {plans plans′ : List ℕ} (k n : ℕ) → m ≡ k → es ≡ firstCandidate ws ∷ []
+      → Found (runEntries ws m m es) n costs costs′ plans plans′ → Ranked ws k n costs costs′ plans plans′
+  ranked {m} {es} {costs} {costs′} {plans} {plans′} k n all h f =
       record {
         count = f .count ∙ ap length run-is ∙ sym (length-map L planOf) ∙ ap length (lists-ranking ws ok k);
         costs-are = f .costs-are ∙ ap (λ (es : List Entry). over (map costIn es) costs) run-is ∙ ap (λ (zs : List ℤ). over zs costs) (lists-costs ws ok k);
@@ -59,5 +59,5 @@ module _ (ws : Words) (ok : bookNumber ws ≡ 0) where
       L : List Entry
       L = runEntries ws k k (startEntry ws ok ∷ [])
 
-      run-is : runEntries ws k k es ≡ runEntries ws k k (startEntry ws ok ∷ [])
-      run-is = ap (runEntries ws k k) (h ∙ ap (λ (e : Entry). e ∷ []) start-is)
+      run-is : runEntries ws m m es ≡ runEntries ws k k (startEntry ws ok ∷ [])
+      run-is = (λ t. runEntries ws (all t) (all t) ((h ∙ ap (λ (e : Entry). e ∷ []) start-is) t))

@@ -16,7 +16,8 @@ use Rattle.stored.specs.Entry.{Entry, earlierEntry}
 use Rattle.stored.specs.Lists.{left}
 use Rattle.stored.specs.Children.{maskAt, childEntry, addIf, splitsAt, childEntries}
 use Rattle.stored.specs.Runs.{itself}
-use Rattle.engine.specs.Engine.{admitted, admittedFrom}
+use Rattle.child.specs.Children.{admitted}
+use Rattle.engine.specs.Engine.{admittedFrom}
 
 -- one state, then the others
 admit-two : (b : Bool) (xs : List ℕ) (d : Entry) (rest : List Entry) (k : ℕ) (es : List Entry)

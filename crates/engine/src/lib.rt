@@ -86,6 +86,7 @@ fn split(
     let mut reach = build::reached_before(b, nx, plan, p);
     while p < s {
         let d = child::child_at(b, z, q, w, plan, e, p);
+        let cost = d.cost;
         let state = p;
         let from = reach;
         reach = build::pass_state(b, nx, plan, state, from);
@@ -93,11 +94,11 @@ fn split(
         let n = pool.count;
         if may_enter(&pool.costs, &pool.order, n, k, d) {
             let row = row_of(b, z, nx, best, plan, state, d.action, from);
-            let i = pool::place(&pool.costs, &pool.plans, &pool.order, n, s, d.cost, &row);
+            let i = pool::place(&pool.costs, &pool.plans, &pool.order, n, s, cost, &row);
             if i < k {
                 let at = pool::spare_place(n, k);
                 let slot = pool::slot_at(&pool.order, at);
-                pool.costs[slot] = d.cost;
+                pool.costs[slot] = cost;
                 pool::write_row(&mut pool.plans, slot, s, &row);
                 pool.splits[slot] = state as u8;
                 pool.barred[slot] = d.mask;

@@ -1,5 +1,10 @@
 -- The search from the first candidate, with the table and the first best actions of the book.
 -- Assumes nothing.
+use mathlib.Core.Path.{sym, subst}
+use Prim.Native.Nat.{ℕ, _*_, _≤_}
+use native.Mathlib.Omega.{arith}
+use lib.ListN.{length}
+use Rattle.model.specs.Model.{stateCount}
 use Rattle.index.proofs.Lines.{headed}
 use Rattle.build.proofs.Best.{table-rows}
 use Rattle.engine.proofs.Ranking.{first-rights, cost-first, ranked}
@@ -45,17 +50,21 @@ search-requires c κs =
     let t = f .before .before .before .before .before .before .before in
     let s = t .before .before .before .before .before .before .before in (
       record {
-        ok = s .pre .0;
-        sizes = t .before .before .before .before .before .read-sizes .ensures;
+        tables = record {
+          ok = s .pre .0;
+          sizes = t .before .before .before .before .before .read-sizes .ensures;
+          next = t .before .before .next-sets .ensures;
+          rows = table-rows _ _ _ (t .make-table .ensures);
+          firsts = f .before .before .before .before .best-actions .ensures;
+        };
         index = t .before .before .before .before .index .ensures;
-        next = t .before .before .next-sets .ensures;
-        rows = table-rows _ _ _ (t .make-table .ensures);
-        firsts = f .before .before .before .before .best-actions .ensures;
       },
-      f .first-pool .ensures .0,
-      first-rights (s .args .b .now) (s .pre .0) _ (f .first-pool .ensures .1),
-      s .pre .3,
-      s .pre .4,
+      record {
+        formed = f .first-pool .ensures .0;
+        rights = first-rights (s .args .b .now) (s .pre .0) _ (f .first-pool .ensures .2);
+        costs-room = omega (arith, f .first-pool .ensures .1, s .pre .3);
+        plans-room = subst (λ (k : ℕ). k * stateCount (s .args .b .now) ≤ length (s .args .plans .now)) (sym (f .first-pool .ensures .1)) (s .pre .4);
+      },
     )
 
 same-length : tie.Need-same-length
@@ -69,7 +78,7 @@ returns c =
     let r = c .before .before .before in
     let f = r .before .before .before .before .before .before .before .before in
     let s = f .before .before .before .before .before .before .before .before .before .before .before .before .before .before in
-    ranked (s .args .b .now) (s .pre .0) (s .args .k) (r .search .result) _ _ _ _ _ (f .first-pool .ensures .1) (r .search .ensures)
+    ranked (s .args .b .now) (s .pre .0) (s .args .k) (r .search .result) (f .first-pool .ensures .1) (f .first-pool .ensures .2) (r .search .ensures)
 
 pub list-spec : {M : Type 1} → statement M
 list-spec =

@@ -3,7 +3,6 @@
 use mathlib.Core.Path.{_≡_, refl, sym, ap, _∙_, subst}
 use mathlib.Core.List.{[], _∷_}
 use Prim.Native.Nat.{ℕ, _*_, _<_}
-
 use native.Mathlib.Omega.{arith}
 use lib.IntN.{pos}
 use lib.ListN.{getD, set, take, replicate}
@@ -55,7 +54,7 @@ returns c =
     let bs = s .args .bytes .now in
     let h = s .pre in
     let written : paste (replicate 4096 0) (getD o 0 0 * 64) bs n ≡ _ =
-        ap (λ (j : ℕ). paste (replicate 4096 0) (j * 64) bs n) (sym (a .slot-at .ensures)) ∙ sym (c .before .before .write-row .ensures)
+    ap (λ (j : ℕ). paste (replicate 4096 0) (j * 64) bs n) (sym (a .slot-at .ensures)) ∙ sym (c .before .before .write-row .ensures)
     in
     subst
     (λ (r : Pool). Formed r × (r .most ≡ s .args .k)

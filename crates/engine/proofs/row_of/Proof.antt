@@ -1,0 +1,56 @@
+-- The bytes of the walk stand before the rest of the row.
+-- Assumes nothing.
+use mathlib.Core.Path.{_≡_, sym, _∙_}
+use mathlib.Core.List.{List, [], _∷_}
+use Prim.Native.Nat.{ℕ, _≤_}
+use native.Mathlib.Omega.{arith}
+use lib.ListN.{length, take}
+use lib.Seq.{length-take-le}
+use Rattle.model.specs.Model.{Words, stateCount, action}
+use Rattle.accepted.specs.Facts.{accepted}
+use Rattle.build.specs.Walk.{walkBy, chosen}
+use Rattle.build.proofs.Prefix.{walk-long}
+use Rattle.engine.proofs.Parts.{row-is}
+use Rattle.engine.proofs.row_of.Statement.{statement}
+use Rattle.engine.proofs.row_of.Tie as tie
+
+abbrev ws : tie.Start → Words
+ws s = s .args .b .now
+
+abbrev walk : tie.Start → List ℕ
+walk s = walkBy (action (ws s)) (chosen (ws s) (s .args .plan .now) (s .args .p) (s .args .c)) (stateCount (ws s)) 0 (0 ∷ [])
+
+few : (s : tie.Start) → s .args .z .s ≤ 64
+few s = omega (arith, s .pre .1 .s-is, accepted (ws s) (s .pre .0) .sizes .s-high)
+
+long : (s : tie.Start) → length (walk s) ≡ s .args .z .s
+long s =
+    walk-long (action (ws s)) (chosen (ws s) (s .args .plan .now) (s .args .p) (s .args .c)) (stateCount (ws s)) 0 (0 ∷ [])
+    ∙ sym (s .pre .1 .s-is)
+
+row-long : (row : List ℕ) → length row ≡ 64 → (s : tie.Start) → length (take (s .args .z .s) row) ≡ s .args .z .s
+row-long row h s = length-take-le (s .args .z .s) row (omega (arith, few s))
+
+zeros-requires : tie.Need-zeros-requires
+zeros-requires c κs = tt
+
+array-borrow-prefix-row : tie.Need-array-borrow-prefix-row
+array-borrow-prefix-row c = omega (arith, few (c .before .before), c .zeros .ensures)
+
+slice-aggregate-build : tie.Need-slice-aggregate-build
+slice-aggregate-build c = sym (row-long (c .before .zeros .result) (c .before .zeros .ensures) (c .before .before .before))
+
+build-requires : tie.Need-build-requires
+build-requires c κs =
+    let s = c .before .before .before in
+    let h = s .pre in
+    (h .0, h .2, h .3, h .4, h .5, h .6, h .7, row-long (c .before .zeros .result) (c .before .zeros .ensures) s ∙ h .1 .s-is)
+
+returns : tie.Need-returns
+returns c =
+    let z = c .before .before .before in
+    let s = z .before .before in
+    row-is (s .args .z .s) (z .zeros .result) (walk s) (c .before .build .ensures) (long s) (z .zeros .ensures) (few s)
+
+pub row-of-spec : {M : Type 1} → statement M
+row-of-spec = tie.close (tie.spec zeros-requires array-borrow-prefix-row slice-aggregate-build build-requires returns)
