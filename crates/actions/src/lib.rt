@@ -53,7 +53,7 @@ fn nexts_allowed(b: &[i32], z: Sizes, n: usize, j: usize) -> bool
     requires { ⌜ Sized (now b) × SizesAre (now b) z × (n ≤ horizon (now b)) × (lineAfter (now b) j ≤ lineCount (now b)) ⌝ }
     ensures { λ r. ⌜ r ≡ nextsAllowed (now (b .entry)) n j ⌝ }
 {
-    let at = 4 + z.h + z.s + j;
+    let at = z.columns + j;
     let r = book::size_at(b, at);
     let width = book::size_at(b, 4 + n);
     nexts_rise(b, at + 1, r, width)
@@ -81,7 +81,7 @@ fn weights_allowed(b: &[i32], z: Sizes, n: usize, j: usize) -> bool
     requires { ⌜ Sized (now b) × SizesAre (now b) z × (lineAfter (now b) j ≤ lineCount (now b)) ⌝ }
     ensures { λ r. ⌜ r ≡ weightsAllowed (now (b .entry)) n j ⌝ }
 {
-    let at = 4 + z.h + z.s + j;
+    let at = z.columns + j;
     let r = book::size_at(b, at);
     let w = weigh(b, at + z.l + 1, r, z.d);
     if !w.ok {
@@ -115,7 +115,7 @@ pub fn action_number(b: &[i32], z: Sizes, n: usize, j: usize) -> u32
     if l <= j {
         return 9;
     }
-    let at = 4 + z.h + z.s + j;
+    let at = z.columns + j;
     if !branches_allowed(b, at, n, z.h) {
         return 9;
     }

@@ -44,7 +44,7 @@ fn length_allowed(b: &[i32], z: Sizes) -> bool
     requires { ⌜ Headed (now b) × SizesAre (now b) z × (z .s ≤ 64) × (z .l ≤ 2048) ⌝ }
     ensures { λ r. ⌜ r ≡ lengthAllowed (now (b .entry)) ⌝ }
 {
-    b.len() == 4 + z.h + z.s + 2 * z.l
+    b.len() == z.columns + 2 * z.l
 }
 
 // The number of the first of the questions 1 to 7 that is answered no, or 0.
