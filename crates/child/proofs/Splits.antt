@@ -46,9 +46,6 @@ add-none true k = refl
 add-none false k = refl
 
 module _ (ws : Words) (ok : bookNumber ws ≡ 0) (e : Entry) (ri : Right ws e) (p : ℕ) (state : p < stateCount ws) (from : e .split ≤ p) where
-  abbrev here : List Entry
-  here = addIf (splitsAt e p) (left ws p (maskAt e p)) (childEntry ws e p) []
-
   -- a state that is not reached has byte 255, and no child
   pub none-unreached : byteAt (e .plan) p ≡ 255 → addIf (splitsAt e p) (left ws p (maskAt e p)) (childEntry ws e p) [] ≡ []
   none-unreached b =

@@ -1,7 +1,7 @@
 -- What the questions 1 to 7 say of the sizes, once they are passed.
 -- Assumes nothing.
 use mathlib.Core.Path.{_≡_, subst}
-use mathlib.Core.Bool.{Bool, true, _&&_}
+use mathlib.Core.Bool.{true, _&&_}
 use Prim.Native.Nat.{ℕ, zero, suc, _+_, _*_, _≤_}
 use native.Mathlib.Omega.{arith}
 use borrow.Author.Tests.{leb-true, eqb-true}
@@ -17,7 +17,6 @@ use Rattle.questions.specs.FirstNo.{passed}
 pub record Sized (ws : Words) : Type 0 where
   pub d-low : 1 ≤ scale ws
   pub d-high : scale ws ≤ 100
-  pub h-low : 1 ≤ horizon ws
   pub h-high : horizon ws ≤ 8
   pub l-low : 1 ≤ lineCount ws
   pub l-high : lineCount ws ≤ 2048
@@ -32,9 +31,6 @@ pub sizes-say : (ws : Words) → sizesAllowed ws ≡ true
 unfolding sizesAllowed stageSize
 sizes-say ws e = (one, sizes, leb-true (stateCount ws) 64 (p .1))
   where
-    test : ℕ → Bool
-    test n = inside (pos 1) (pos 16) (word ws (4 + n))
-
     p : ((inside (pos 1) (pos 1) (word ws 3) && all (horizon ws) (λ (n : ℕ). inside (pos 1) (pos 16) (word ws (4 + n)))) ≡ true) × (leb (stateCount ws) 64 ≡ true)
     p = and-true (inside (pos 1) (pos 1) (word ws 3) && all (horizon ws) (λ (n : ℕ). inside (pos 1) (pos 16) (word ws (4 + n)))) (leb (stateCount ws) 64) e
 
@@ -57,7 +53,6 @@ sized ws e =
     record {
       d-low = d .0;
       d-high = d .1;
-      h-low = h .0;
       h-high = h .1;
       l-low = l .0;
       l-high = l .1;

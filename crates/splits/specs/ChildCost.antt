@@ -23,7 +23,7 @@ use Rattle.laws.specs.Greedy.{byteOf, best, greedy, obeys-on, tight-on}
 use Rattle.laws.specs.First.{Shape, Lists, costFrom0, firstPolicy, is-policy}
 use Rattle.splits.specs.Parts.{without, split-eq, split-gt, Reaches, reaches-is, part-front}
 use Rattle.splits.specs.Kbest.{childAt, child-lists}
-use Rattle.splits.specs.Reach.{weightsBefore, reachWeight, weights-same, expected-same, reach-moves, reach-moves-by}
+use Rattle.splits.specs.Reach.{weightsBefore, reachWeight, weights-same, expected-same, reach-moves-by}
 use Rattle.splits.specs.Reach.{known-reached, known-weight}
 
 -- ---- the first policy at each state that it reaches
@@ -145,20 +145,6 @@ module _ (D S : ℕ) (act : ℕ → ℕ → Action) (togo : ℕ → ℕ) (sh : S
       → byteAt (firstPolicy D S act togo (childAt D S act togo os r)) q ≡ byteAt (firstPolicy D S act togo os) q
   child-front q l = front .0 q (omega arith) l
 
-  -- at r it takes the lowest best action of those that are left
-  pub child-byte : byteAt (firstPolicy D S act togo (childAt D S act togo os r)) r ≡ nextBest D S act togo all os r
-  child-byte =
-      first-byte D S act togo sh Alive ks ks-lists r (front .1)
-      ∙ ap₂ bestOf (through-same D act (sh .later) ks all r ks-after (togo r) r (omega arith))
-      (split-eq (byteAt f) r (without (byteAt f r) (os r)) os)
-
-  -- and after r, where it reaches a state, the lowest best action of the model
-  pub child-after : (s : ℕ) → r < s → Reaches act s 0 (0 ∷ []) (firstPolicy D S act togo (childAt D S act togo os r))
-      → byteAt (firstPolicy D S act togo (childAt D S act togo os r)) s ≡ bestOf (through D act all (togo s) s) (all s)
-  child-after s l i =
-      first-byte D S act togo sh Alive ks ks-lists s i
-      ∙ ap₂ bestOf (through-same D act (sh .later) ks all r ks-after (togo s) s (omega arith)) (ks-after s l)
-
   -- ---- its cost
 
   abbrev v : ℕ → ℤ
@@ -206,15 +192,6 @@ module _ (D S : ℕ) (act : ℕ → ℕ → Action) (togo : ℕ → ℕ) (sh : S
       go : (w : ℕ) → weightsBefore (λ p. act p (byteAt f p)) r s ≡ w → (weightsBefore (λ p. act p (byteAt f p)) r s ≡ 0) ⊎ (v′ s ≡ v s)
       go zero e = inl e
       go (suc w) e = inr (k-least (omega (arith, same)) ∙ sym (f-least (omega arith)))
-
-  -- the child's cost by the candidate's
-  pub child-cost : costFrom0 D act togo (firstPolicy D S act togo (childAt D S act togo os r))
-      +ℤ pos (reachWeight act (firstPolicy D S act togo os) r) *ℤ through D act all (togo r) r (byteAt (firstPolicy D S act togo os) r)
-      ≡ costFrom0 D act togo (firstPolicy D S act togo os)
-      +ℤ pos (reachWeight act (firstPolicy D S act togo os) r) *ℤ through D act all (togo r) r (nextBest D S act togo all os r)
-  child-cost =
-      rw (← f-at, ← k-at) (reach-moves D togo S (λ p. act p (byteAt f p)) (λ p. sh .step p (byteAt f p)) (λ p. sh .later p (byteAt f p))
-      (λ p. sh .inside p (byteAt f p)) (λ p. act p (byteAt k p)) r r-inside same-front unmoved)
 
   -- the same by the difference
   pub child-cost-by : costFrom0 D act togo (firstPolicy D S act togo (childAt D S act togo os r))

@@ -23,7 +23,7 @@ use Rattle.model.specs.Recursion.{expected, actionCost, costToGo}
 use Rattle.laws.specs.Int.{up, dn, is, dif-eq, ring, eq-in, le-in, le-out, ints, sum-is, scale-mono, ≤ℤ-trans}
 use Rattle.laws.specs.Members.{true-T, In, in-one, in-++, ++-in, Every, every-imp, isIn-in, AtNexts}
 use Rattle.laws.specs.Paths.{weightsOf}
-use Rattle.laws.specs.Policies.{IsPolicy, reachedFrom, reached-mono, reached-late, Reads, reads}
+use Rattle.laws.specs.Policies.{IsPolicy, reachedFrom, reached-mono, Reads, reads}
 
 -- ---- reach weights
 
@@ -476,22 +476,3 @@ module _ (act : ℕ → ℕ → Action) where
           → (0 < weightsBefore (λ q. act q (byteAt bs q)) p s) ↔ In s (reachedFrom act 0 (0 ∷ []) (take p bs))
       known-weight p l =
           rw zero-add at (agree-on (byteAt bs) p S 0 (0 ∷ []) bs policy (reads bs) (agree-start (byteAt bs)) l)
-
-      -- a state has a reach weight exactly if it is reached
-      pub reached-weight : ((p c : ℕ) → AtNexts (λ q. p < q) (act p c .transitions)) → (r : ℕ) → r < S
-          → (0 < reachWeight act bs r) ↔ In r (reachedFrom act 0 (0 ∷ []) bs)
-      reached-weight later r l =
-          (λ h. known-reached r 0 (0 ∷ []) bs r (w .0 h), λ i. w .1 (known (reached-late act later (0 + r) before (drop r bs) r (rw (← on) at i))))
-        where
-          before : List ℕ
-          before = reachedFrom act 0 (0 ∷ []) (take r bs)
-
-          on : reachedFrom act (0 + r) before (drop r bs) ≡ reachedFrom act 0 (0 ∷ []) bs
-          on = reached-on r 0 (0 ∷ []) bs
-
-          w : (0 < reachWeight act bs r) ↔ In r before
-          w = known-weight r (omega arith) r (omega arith)
-
-          known : In r before ⊎ (0 + r < r) → In r before
-          known (inl i) = i
-          known (inr k) = absurd (omega arith)

@@ -80,9 +80,6 @@ module _ (ws : Words) (ok : bookNumber ws ≡ 0) (e : Entry) (ri : Right ws e) w
   abbrev f : ℕ → ℕ
   f = byteAt (e .plan)
 
-  abbrev act : ℕ → ℕ → Rattle.model.specs.Model.Action
-  act = action ws
-
   few : (p : ℕ) → p < stateCount ws → actionCount ws p ≤ 8
   few p h = accepted ws ok .counts-high p h
 

@@ -4,7 +4,7 @@ use mathlib.Core.Path.{_≡_, refl, sym, ap, _∙_}
 use mathlib.Core.Bool.{Bool, true, false, not, cond}
 use mathlib.Core.Logic.{inl, inr}
 use mathlib.Core.List.{List, [], _∷_}
-use Prim.Native.Nat.{ℕ, zero, suc, _+_, _-_, _≤_, _<_}
+use Prim.Native.Nat.{ℕ, suc, _+_, _-_, _≤_, _<_}
 use native.Mathlib.Numerals.{add-one}
 use native.Mathlib.Decide.{decLt}
 use native.Mathlib.Omega.{arith}
@@ -45,9 +45,6 @@ module _ (f : ℕ → ℤ) where
   pick-below : (b : Bool) (x y : ℕ) → x < 8 → y < 8 → pick b x y < 8
   pick-below true x y h k = h
   pick-below false x y h k = k
-
-  pub none-left : (y : ℕ) → better f 255 y ≡ y
-  none-left y = refl
 
   pub none-right : (x : ℕ) → Chosen x → better f x 255 ≡ x
   none-right x (inl e) = rw e
@@ -107,9 +104,6 @@ pub best-step : (f : ℕ → ℤ) (mask c n best : ℕ) → c < n → n ≤ 8 �
     ≡ better f (cond (has mask c) best (better f best c)) (bestOf f (free mask (c + 1) (n - (c + 1))))
 best-step f mask c n best h k b = rw (free-step mask c n h) (go (has mask c))
   where
-    rest : List ℕ
-    rest = free mask (c + 1) (n - (c + 1))
-
     small : Every (λ c. c < 8) (free mask (c + 1) (n - (c + 1)))
     small = free-below mask (c + 1) (n - (c + 1)) (omega arith)
 
