@@ -1,8 +1,8 @@
 -- What the thirteen questions say of a book that passes them all: of its sizes, of each state p, and of each action c of state p.
 -- Assumes nothing.
-use mathlib.Core.Path.{_≡_, refl, sym, _∙_}
+use mathlib.Core.Path.{_≡_, sym, _∙_}
 use mathlib.Core.Bool.{Bool, true, false, cond}
-use Prim.Native.Nat.{ℕ, zero, suc, _+_, _*_, _^_, _≤_, _<_}
+use Prim.Native.Nat.{ℕ, _+_, _*_, _^_, _≤_, _<_}
 use native.Mathlib.Nat.{le-trans}
 use native.Mathlib.Omega.{arith}
 use borrow.Author.Tests.{leb-true, eq-eqb}
@@ -11,10 +11,10 @@ use lib.IntN.{pos, natAbs}
 use Rattle.model.specs.Lists.{all, maxTo}
 use Rattle.model.specs.Model.{Words, word, scale, horizon, lineCount, stateCount, stage, actionCount, left, right}
 use Rattle.model.specs.Model.{branches, lineAfter, stateLine, actionLine}
-use Rattle.model.specs.Questions.{firstNo, andThen, inside, mostActions, countsAllowed, everyAction, branchesAllowed, linesAllowed}
+use Rattle.model.specs.Questions.{firstNo, inside, mostActions, countsAllowed, everyAction, branchesAllowed, linesAllowed}
 use Rattle.model.specs.Questions.{nextsAllowed, weightsAllowed, largestCost, costsBounded, sizeQuestions, actionQuestions, bookNumber}
 use Rattle.questions.specs.Ranges.{and-true, all-at, max-least, inside-range}
-use Rattle.questions.specs.FirstNo.{AllYes, passed, after}
+use Rattle.questions.specs.FirstNo.{AllYes, passed, after, then-zero}
 use Rattle.questions.specs.Sizes.{Sized, sized}
 
 pub record Accepted (ws : Words) : Type 0 where
@@ -34,11 +34,6 @@ pub record Accepted (ws : Words) : Type 0 where
   -- 13: "Is D^H × (H + 1) × (largest cost without its sign) at most 4 × 10^18?"
   pub cost-bounded : (p c : ℕ) → p < stateCount ws → c < actionCount ws p → natAbs (right ws (actionLine ws p c)) ≤ largestCost ws
   pub product-bounded : scale ws ^ horizon ws * (horizon ws + 1) * largestCost ws ≤ 4000000000000000000
-
--- two runs of questions are passed exactly if both are
-and-then : (m n : ℕ) → andThen m n ≡ 0 → (m ≡ 0) × (n ≡ 0)
-and-then zero n e = (refl, e)
-and-then (suc m) n e = absurd (omega arith)
 
 -- ---- 8
 
@@ -118,7 +113,7 @@ accepted ws ok =
   where
     both : (firstNo sizeQuestions ws ≡ 0) × (firstNo actionQuestions ws ≡ 0)
     both =
-        and-then (firstNo sizeQuestions ws) (firstNo actionQuestions ws)
+        then-zero (firstNo sizeQuestions ws) (firstNo actionQuestions ws)
         (sym (after ws sizeQuestions actionQuestions (omega arith)) ∙ ok)
 
     y : AllYes actionQuestions ws

@@ -1,3 +1,4 @@
 pub mod Facts
 pub mod Shape
 pub mod Demands
+pub mod Bytes

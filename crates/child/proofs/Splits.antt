@@ -26,7 +26,7 @@ use Rattle.splits.specs.Parts.{Reaches, reaches-is}
 use Rattle.stored.specs.Entry.{Entry}
 use Rattle.stored.specs.Lists.{left}
 use Rattle.stored.specs.Children.{Right, maskAt, childEntry, addIf, splitsAt, plan-model}
-use Rattle.value.proofs.Bytes.{byte-cases, policy-long}
+use Rattle.accepted.specs.Bytes.{byte-cases, policy-long}
 
 -- a first best action tells whether a list has one
 best-some : (f : ℕ → ℤ) (xs : List ℕ) → (bestOf f xs ≡ 255 → ⊥) → In (bestOf f xs) xs
@@ -78,7 +78,7 @@ module _ (ws : Words) (ok : bookNumber ws ≡ 0) (e : Entry) (ri : Right ws e) (
             reaches-is (action ws) (shape ws ok .later) p 0 (0 ∷ []) (e .plan) .1 (
               isIn-in p (reached ws (e .plan)) (true-T q),
               omega arith,
-              omega (arith, policy-long ws ok (e .plan) (plan-model ws ok e ri) p state),
+              omega (arith, policy-long ws ok (e .plan) (plan-model ws ok e ri)),
             )
         go false q =
             absurd (other (policy-bytes ws ok (e .plan) .0 is .at-other p state

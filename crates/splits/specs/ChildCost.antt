@@ -2,10 +2,10 @@
 -- the actions of f before r, the best of the other actions at r, and best actions of the model after r. So does f after r. So of r and the later
 -- states that both reach, only r has another cost-to-go, and the costs of the two differ by the reach weight of r times that difference.
 -- Assumes nothing.
-use mathlib.Core.Path.{_≡_, refl, sym, ap, ap₂, _∙_, fun-ext}
+use mathlib.Core.Path.{_≡_, refl, sym, ap, ap₂, _∙_}
 use mathlib.Core.Logic.{_⊎_, inl, inr, _↔_}
 use mathlib.Core.List.{List, [], _∷_}
-use Prim.Native.Nat.{ℕ, zero, suc, _^_, _≤_, _<_}
+use Prim.Native.Nat.{ℕ, zero, suc, _≤_, _<_}
 use native.Mathlib.Omega.{arith}
 use lib.IntN.{ℤ, pos, _+ℤ_, _-ℤ_, _*ℤ_}
 use lib.ListN.{length}
@@ -16,14 +16,15 @@ use Rattle.model.specs.Policy.{Policy, onward}
 use Rattle.model.specs.Path.{byteAt}
 use Rattle.model.specs.Recursion.{costToGo, bestOf, through, leastToGo}
 use Rattle.laws.specs.Int.{≤ℤ-antisym}
-use Rattle.laws.specs.Members.{T-true, In, every-imp, every-both, in-isIn, AtNexts}
+use Rattle.laws.specs.Members.{T-true, In, every-both, in-isIn, AtNexts}
+use Rattle.laws.specs.ToGo.{through-same, least-same}
 use Rattle.laws.specs.Best.{least-below, tight-least}
 use Rattle.laws.specs.Policies.{IsPolicy, policy-length, reachedFrom, reached-closed, Reads, reads}
 use Rattle.laws.specs.Greedy.{byteOf, best, greedy, obeys-on, tight-on}
 use Rattle.laws.specs.First.{Shape, Lists, costFrom0, firstPolicy, is-policy}
 use Rattle.splits.specs.Parts.{without, split-eq, split-gt, Reaches, reaches-is, part-front}
 use Rattle.splits.specs.Kbest.{childAt, child-lists}
-use Rattle.splits.specs.Reach.{weightsBefore, reachWeight, weights-same, expected-same, reach-moves-by}
+use Rattle.splits.specs.Reach.{weightsBefore, reachWeight, weights-same, reach-moves-by}
 use Rattle.splits.specs.Reach.{known-reached, known-weight}
 
 -- ---- the first policy at each state that it reaches
@@ -85,25 +86,6 @@ module _ (D S : ℕ) (act : ℕ → ℕ → Action) (togo : ℕ → ℕ) (sh : S
   weighs : (p s : ℕ) → p ≤ s → s < S → 0 < weightsBefore (λ q. act q (byteAt G q)) p s → ReachedByG s
   weighs p s a b h =
       reached-is s .1 (known-reached act p 0 (0 ∷ []) G s (known-weight act opts (sh .positive) (sh .bare) S G policy p (omega arith) s a .0 h), b)
-
--- ---- lists that are the same after state r
-
-module _ (D : ℕ) (act : ℕ → ℕ → Action) (later : (p c : ℕ) → AtNexts (λ q. p < q) (act p c .transitions))
-    (os all : ℕ → List ℕ) (r : ℕ) (after : (s : ℕ) → r < s → os s ≡ all s) where
-  least-from : (m q : ℕ) → r < q → through D act os m q ≡ through D act all m q → leastToGo D act os m q ≡ leastToGo D act all m q
-  least-from m q l e = ap₂ (λ (g : ℕ → ℤ) (xs : List ℕ). g (bestOf g xs)) e (after q l)
-
-  -- the cost of an action at r or after it, with best actions ever after
-  through-same : (m q : ℕ) → r ≤ q → through D act os m q ≡ through D act all m q
-  through-same zero q l = refl
-  through-same (suc m) q l =
-      fun-ext (λ c. ap (λ (z : ℤ). pos (D ^ suc m) *ℤ act q c .cost +ℤ z)
-      (expected-same (leastToGo D act os m) (leastToGo D act all m) (act q c .transitions)
-      (every-imp (λ t k. least-from m (t .next) (omega arith) (through-same m (t .next) (omega arith))) (act q c .transitions) (later q c))))
-
-  -- the least cost-to-go after r
-  least-same : (m q : ℕ) → r < q → leastToGo D act os m q ≡ leastToGo D act all m q
-  least-same m q l = least-from m q l (through-same m q (omega arith))
 
 -- ---- the child at a state
 

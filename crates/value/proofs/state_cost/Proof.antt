@@ -12,7 +12,8 @@ use Rattle.model.specs.Recursion.{actionCost, costToGo}
 use Rattle.accepted.specs.Facts.{accepted}
 use Rattle.costs.proofs.Sums.{read64}
 use Rattle.costs.proofs.ToGo.{policy-step, policy-bounded, by-array}
-use Rattle.value.proofs.Bytes.{byte-is, byte-cases, policy-long, no-cost}
+use Rattle.accepted.specs.Bytes.{byte-is, byte-cases, policy-long}
+use Rattle.value.proofs.Bytes.{no-cost}
 use Rattle.value.proofs.state_cost.Statement.{statement}
 use Rattle.value.proofs.state_cost.Tie as tie
 
@@ -24,7 +25,7 @@ module _ (s : tie.Start) where
   bs = s .args .plan .now
 
   long : s .args .p < length bs
-  long = omega (arith, policy-long ws (s .pre .0) bs (s .pre .3) (s .args .p) (s .pre .4), s .pre .4)
+  long = omega (arith, policy-long ws (s .pre .0) bs (s .pre .3), s .pre .4)
 
   byte : byteAt bs (s .args .p) ≡ getD bs (s .args .p) 0
   byte = byte-is bs (s .args .p) 255 0 long
