@@ -15,8 +15,7 @@ use Rattle.model.specs.Questions.{bookNumber}
 use Rattle.model.specs.Recursion.{bestOf, through}
 use Rattle.laws.specs.Members.{in-every, upFrom-in}
 use Rattle.accepted.specs.Facts.{accepted}
-use Rattle.masks.specs.Masks.{free}
-use Rattle.masks.proofs.Bars.{free-all}
+use Rattle.sets.specs.Sets.{free, free-all}
 use Rattle.table.specs.Table.{rowOf, TableOf}
 use Rattle.table.proofs.Better.{best-same, best-below}
 use Rattle.build.specs.Best.{bestAt, RowsOf, BestTo}
@@ -30,11 +29,11 @@ module _ (ws : Words) (p : ℕ) where
   cost = through (scale ws) (action ws) (options ws) (togo ws p) p
 
   -- the choice by the row of a state is its first best action
-  pub row-best : (q : List ℤ) → RowsOf ws q → p < stateCount ws → bestOf (rowOf q p) (free 0 0 (actionCount ws p)) ≡ bestAt ws p
+  pub row-best : (q : List ℤ) → RowsOf ws q → p < stateCount ws → bestOf (rowOf q p) (free 0 (upFrom 0 (actionCount ws p))) ≡ bestAt ws p
   unfolding options
   row-best q t h =
       let n = actionCount ws p in
-      ap (bestOf (rowOf q p)) (free-all 0 n)
+      ap (bestOf (rowOf q p)) (free-all (upFrom 0 n))
       ∙ best-same (rowOf q p) cost (upFrom 0 n)
       (in-every (λ c. rowOf q p c ≡ cost c) (upFrom 0 n) (λ c i. t .through-is p c h (omega (arith, upFrom-in 0 n i))))
 

@@ -12,7 +12,7 @@ use Rattle.model.specs.Model.{Words, Action, stateCount, actionCount, action}
 use Rattle.model.specs.Policy.{Policy, onward}
 use Rattle.model.specs.Path.{byteAt}
 use Rattle.laws.specs.Greedy.{byteOf}
-use Rattle.sets.specs.Sets.{holds, SetOf}
+use Rattle.sets.specs.Sets.{has, SetOf}
 use Rattle.build.specs.Best.{bestAt}
 
 module _ (act : ℕ → ℕ → Action) (choose : ℕ → ℕ) where
@@ -40,7 +40,7 @@ Usable ws bs r = (s : ℕ) → s < r → ActionOrNone ws bs s
 
 -- of state s, whose action is a: its byte, and the set of states known to be reached before and after its next states are among them
 pub record Stepped (act : ℕ → ℕ → Action) (s a byte before after : ℕ) : Type 0 where
-  pub byte-is : byte ≡ byteOf (holds before s) a
+  pub byte-is : byte ≡ byteOf (has before s) a
   pub reached : (qs : List ℕ) → SetOf before qs → SetOf after (onward act s byte qs)
 
 -- the set of the states that the first s bytes of bs reach: whoever acts by these bytes walks over the other states from there

@@ -69,7 +69,7 @@ fn step(
     requires { ⌜ (bookNumber (now b) ≡ 0) × NextsOf (now b) (now nx) × BestOf (now b) (now best) × Usable (now b) (now plan) r × (c < actionCount (now b) r) × (s < stateCount (now b)) ⌝ }
     ensures { λ a. ⌜ Stepped (action (now (b .entry))) s (chosen (now (b .entry)) (now (plan .entry)) r c s) (a .byte) reach (a .reach) ⌝ }
 {
-    if !sets::in_set(reach, s as u64) {
+    if !sets::has64(reach, s as u64) {
         return Stepping {
             byte: 255,
             reach: reach,
@@ -85,7 +85,7 @@ fn step(
     let more = nx[8 * s + a];
     Stepping {
         byte: a as u8,
-        reach: sets::join(more, reach),
+        reach: sets::union64(more, reach),
     }
 }
 
@@ -99,7 +99,7 @@ pub fn pass_state(b: &[i32], nx: &[u64; 512], plan: &[u8], s: usize, reach: u64)
         return reach;
     }
     let more = nx[8 * s + a];
-    sets::join(more, reach)
+    sets::union64(more, reach)
 }
 
 // The states that the bytes of `plan` before state r reach.

@@ -10,18 +10,18 @@ use borrow.Author.Tests.{le-leb, ne-eqb, eq-eqb}
 use lib.Dec.{T, T-not, leb}
 use lib.IntN.{ℤ}
 use Rattle.model.specs.Lists.{isIn}
-use Rattle.model.specs.Model.{Words, stateCount, actionCount, action}
+use Rattle.model.specs.Model.{Words, stateCount, actionCount, action, options}
 use Rattle.model.specs.Questions.{bookNumber}
 use Rattle.model.specs.Policy.{Policy}
 use Rattle.model.specs.Path.{byteAt}
 use Rattle.model.specs.Recursion.{bestOf}
 use Rattle.questions.specs.Ranges.{and-right}
-use Rattle.laws.specs.Members.{In, Every, every-in, isIn-in, in-isIn, true-T, false-T}
+use Rattle.laws.specs.Members.{In, Every, every-in, in-every, isIn-in, in-isIn, true-T, false-T}
 use Rattle.laws.specs.Best.{best-in}
 use Rattle.accepted.specs.Facts.{accepted}
-use Rattle.accepted.specs.Shape.{shape}
+use Rattle.accepted.specs.Shape.{shape, options-below}
 use Rattle.accepted.specs.Demands.{reached, policy-bytes}
-use Rattle.masks.proofs.Free.{free-below}
+use Rattle.sets.specs.Sets.{free-in}
 use Rattle.splits.specs.Parts.{Reaches, reaches-is}
 use Rattle.stored.specs.Entry.{Entry}
 use Rattle.stored.specs.Lists.{left}
@@ -56,8 +56,13 @@ module _ (ws : Words) (ok : bookNumber ws ≡ 0) (e : Entry) (ri : Right ws e) (
       → addIf (splitsAt e p) (left ws p (maskAt e p)) (childEntry ws e p) [] ≡ []
   none-left f b =
       ap (λ (xs : List ℕ). addIf (splitsAt e p) xs (childEntry ws e p) [])
-      (best-none f (left ws p (maskAt e p)) (free-below (maskAt e p) 0 (actionCount ws p) (omega (arith, accepted ws ok .counts-high p state))) b)
+      (best-none f (left ws p (maskAt e p)) small b)
       ∙ add-none (splitsAt e p) (childEntry ws e p)
+    where
+      small : Every (λ c. c < 8) (left ws p (maskAt e p))
+      small =
+          in-every (λ c. c < 8) (left ws p (maskAt e p))
+          (λ c i. omega (arith, options-below ws p (free-in (maskAt e p) c (options ws p) i), accepted ws ok .counts-high p state))
 
   -- any other byte is an action of a reached state
   module _ (other : byteAt (e .plan) p ≡ 255 → ⊥) where

@@ -5,7 +5,7 @@ ghost use Prim.Native.Nat.{_<_};
 ghost use lib.IntN.{pos, _+ℤ_, _-ℤ_, _*ℤ_};
 ghost use lib.Dec.{eqb};
 ghost use lib.ListN.{getD};
-ghost use Rattle.masks.specs.Masks.{with};
+ghost use Rattle.sets.specs.Sets.{with};
 ghost use Rattle.table.specs.Table.{rowOf};
 ghost use Rattle.child.specs.Move.{Movable};
 
@@ -30,7 +30,7 @@ pub fn mask_at(split: usize, mask: u8, p: usize, f: usize) -> u8
     ensures { λ r. ⌜ r ≡ with (cond (eqb p split) mask 0) f ⌝ }
 {
     if p == split {
-        return masks::bar(mask, f as u8);
+        return sets::with8(mask, f as u8);
     }
-    masks::bar(0, f as u8)
+    sets::with8(0, f as u8)
 }

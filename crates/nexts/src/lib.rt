@@ -24,7 +24,7 @@ fn next_set(b: &[i32], z: Sizes, x: &[usize; 192], p: usize, c: usize, j: usize)
     while i < r {
         i = i + 1;
         let q = base + index::plain_at(b, at + i);
-        set = sets::add(set, q as u64);
+        set = sets::with64(set, q as u64);
     }
     set
 }

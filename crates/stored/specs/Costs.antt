@@ -21,8 +21,7 @@ use Rattle.stored.specs.Entry.{Entry}
 use Rattle.stored.specs.Lists.{left, listsOf, lists-after}
 use Rattle.stored.specs.Children.{firstOf, costOf, Right, maskAt, childEntry, left-is}
 
-module _ (ws : Words) (ok : bookNumber ws ≡ 0) (e : Entry) (ri : Right ws e) (p : ℕ) (state : p < stateCount ws) (from : e .split ≤ p)
-    (small : byteAt (e .plan) p < 8) where
+module _ (ws : Words) (ok : bookNumber ws ≡ 0) (e : Entry) (ri : Right ws e) (p : ℕ) (from : e .split ≤ p) where
   abbrev child : ℕ → List ℕ
   child = childAt (scale ws) (stateCount ws) (action ws) (togo ws) (listsOf ws e) p
 
@@ -46,7 +45,7 @@ module _ (ws : Words) (ok : bookNumber ws ≡ 0) (e : Entry) (ri : Right ws e) (
   child-here =
       split-eq own p (without (own p) (listsOf ws e p)) (listsOf ws e)
       ∙ ap (λ (bs : Policy). without (byteAt bs p) (listsOf ws e p)) (sym (ri .plan-is))
-      ∙ sym (left-is ws ok e ri p state from small)
+      ∙ sym (left-is ws ok e ri p from)
 
   rows-same : (s : ℕ) → p ≤ s → through (scale ws) (action ws) child (togo ws s) s ≡ row s
   rows-same s h = through-same (scale ws) (action ws) (shape ws ok .later) child (options ws) p child-after (togo ws s) s h
@@ -69,8 +68,8 @@ module _ (ws : Words) (ok : bookNumber ws ≡ 0) (e : Entry) (ri : Right ws e) (
   cost-moves reached some =
       child-cost-by (scale ws) (stateCount ws) (action ws) (togo ws) (shape ws ok) (λ p. p < stateCount ws) (options ws) (listsOf ws e) (ri .lists) p after
       (subst (Reaches (action ws) p 0 (0 ∷ [])) (ri .plan-is) reached)
-      (some .0, subst (λ (bs : Policy). In (some .0) (without (byteAt bs p) (listsOf ws e p))) (ri .plan-is) (subst (In (some .0)) (left-is ws ok e ri p state from small) (some .1)))
+      (some .0, subst (λ (bs : Policy). In (some .0) (without (byteAt bs p) (listsOf ws e p))) (ri .plan-is) (subst (In (some .0)) (left-is ws ok e ri p from) (some .1)))
       ∙ ap (λ (bs : Policy). costOf ws bs +ℤ pos (reachWeight (action ws) bs p)
       *ℤ (row p (bestOf (row p) (without (byteAt bs p) (listsOf ws e p))) -ℤ row p (byteAt bs p))) (sym (ri .plan-is))
       ∙ ap₂ (λ (z : ℤ) (xs : List ℕ). z +ℤ pos (reachWeight (action ws) (e .plan) p) *ℤ (row p (bestOf (row p) xs) -ℤ row p (byteAt (e .plan) p)))
-      (sym (ri .cost-is)) (sym (left-is ws ok e ri p state from small))
+      (sym (ri .cost-is)) (sym (left-is ws ok e ri p from))

@@ -5,7 +5,6 @@ use mathlib.Core.Bool.{Bool, true, false, not, _&&_, _||_}
 use mathlib.Core.Logic.{inl, inr}
 use mathlib.Core.List.{List, [], _∷_, map}
 use Prim.Native.Nat.{ℕ, zero, suc, _-_, _<_}
-use native.Mathlib.Omega.{arith}
 use lib.IntN.{ℤ}
 use lib.Signed.{ltZ}
 use lib.ListN.{take}
@@ -131,7 +130,6 @@ module _ (ws : Words) (ok : bookNumber ws ≡ 0) where
         lists = subst (Lists (λ p. p < stateCount ws) (action ws)) (sym start-lists) (lists ws ok);
         plan-is = ap (firstOf ws) (sym start-lists);
         cost-is = refl;
-        mask-small = omega arith;
         among = λ u h. subst (λ (os : ℕ → List ℕ). IsPolicy (action ws) os (stateCount ws) 0 (0 ∷ []) u) start-lists h;
       }
 

@@ -15,8 +15,6 @@ use Rattle.model.specs.Questions.{bookNumber}
 use Rattle.model.specs.Recursion.{actionCost, bestOf, through, leastToGo}
 use Rattle.laws.specs.Members.{in-every, upFrom-in}
 use Rattle.accepted.specs.Facts.{accepted}
-use Rattle.masks.specs.Masks.{free}
-use Rattle.masks.proofs.Bars.{free-all}
 use Rattle.costs.specs.Terms.{valueAt}
 use Rattle.costs.proofs.ToGo.{through-step, by-array, holds-more}
 use Rattle.table.specs.Table.{rowOf, FilledTo, Filled, TableFrom}
@@ -59,13 +57,12 @@ module _ (ws : Words) (ok : bookNumber ws ≡ 0) (p : ℕ) (hp : p < stateCount 
   row-is c h = f .row c h ∙ by-array ws ok least p c v (λ s a b. t .least-is s a b) ∙ sym (through-step ws ok p c)
 
   -- and its best entry is the least cost-to-go
-  pub row-least : rowOf r p (bestOf (rowOf r p) (free 0 0 (actionCount ws p))) ≡ least p
+  pub row-least : rowOf r p (bestOf (rowOf r p) (upFrom 0 (actionCount ws p))) ≡ least p
   unfolding options
   row-least =
       let n = actionCount ws p in
-      let e : bestOf (rowOf r p) (free 0 0 n) ≡ bestOf (through (scale ws) (action ws) (options ws) (togo ws p) p) (upFrom 0 n)
-      = ap (bestOf (rowOf r p)) (free-all 0 n)
-      ∙ best-same (rowOf r p) (through (scale ws) (action ws) (options ws) (togo ws p) p) (upFrom 0 n)
+      let e : bestOf (rowOf r p) (upFrom 0 n) ≡ bestOf (through (scale ws) (action ws) (options ws) (togo ws p) p) (upFrom 0 n)
+      = best-same (rowOf r p) (through (scale ws) (action ws) (options ws) (togo ws p) p) (upFrom 0 n)
       (in-every (λ c. rowOf r p c ≡ through (scale ws) (action ws) (options ws) (togo ws p) p c) (upFrom 0 n) (λ c i. row-is c (omega (arith, upFrom-in 0 n i)))) in
       ap (rowOf r p) e ∙ row-is (bestOf (through (scale ws) (action ws) (options ws) (togo ws p) p) (upFrom 0 n)) (best-below (through (scale ws) (action ws) (options ws) (togo ws p) p) n (accepted ws ok .counts-low p hp))
 

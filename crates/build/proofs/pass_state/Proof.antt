@@ -9,7 +9,7 @@ use Rattle.model.specs.Model.{Words, actionCount, action}
 use Rattle.model.specs.Policy.{Policy, nexts, onward}
 use Rattle.model.specs.Path.{byteAt}
 use Rattle.accepted.specs.Facts.{accepted}
-use Rattle.sets.specs.Sets.{SetOf, set-both}
+use Rattle.sets.specs.Sets.{SetOf, set-union}
 use Rattle.build.proofs.Prefix.{passed-more, passed-bare, byte-there}
 use borrow.Author.Needs.{needs}
 use Rattle.build.proofs.pass_state.Statement.{statement}
@@ -65,8 +65,8 @@ mul-more-2 c = omega (arith, small c)
 element-copy-out-more : tie.Need-element-copy-out-more
 element-copy-out-more c = omega (arith, small c)
 
-join-requires : tie.Need-join-requires
-join-requires c κs = search needs
+union64-requires : tie.Need-union64-requires
+union64-requires c κs = search needs
 
 returns-2 : tie.Need-returns-2
 returns-2 c =
@@ -77,9 +77,9 @@ returns-2 c =
     let on : SetOf more (nexts (action (ws s) (s .args .s) (byteAt (bs s) (s .args .s)) .transitions)) =
     subst (λ (a : ℕ). SetOf more (nexts (action (ws s) (s .args .s) a .transitions))) (there s)
     (s .pre .1 .at (s .args .s) (getD (bs s) (s .args .s) 0) (s .pre .2) (below e)) in
-    passed-more (ws s) (bs s) (s .pre .0) (s .args .s) (s .pre .2) (s .args .reach) (s .pre .4) (c .join .result)
-    (subst (λ (m : ℕ). SetOf m (onward (action (ws s)) (s .args .s) (byteAt (bs s) (s .args .s)) (h .reach))) (sym (c .join .ensures))
-    (set-both more (s .args .reach) _ (h .reach) on (h .set-is)))
+    passed-more (ws s) (bs s) (s .pre .0) (s .args .s) (s .pre .2) (s .args .reach) (s .pre .4) (c .union64 .result)
+    (subst (λ (m : ℕ). SetOf m (onward (action (ws s)) (s .args .s) (byteAt (bs s) (s .args .s)) (h .reach))) (sym (c .union64 .ensures))
+    (set-union more (s .args .reach) _ (h .reach) on (h .set-is)))
 
 pub pass-state-spec : {M : Type 1} → statement M
 pass-state-spec =
@@ -92,5 +92,5 @@ pass-state-spec =
     add-more
     mul-more-2
     element-copy-out-more
-    join-requires
+    union64-requires
     returns-2)

@@ -11,7 +11,7 @@ use Rattle.accepted.specs.Facts.{accepted}
 use Rattle.book.proofs.Columns.{left-is, branches-are}
 use Rattle.index.proofs.Lines.{lines-inside}
 use Rattle.index.proofs.Signs.{line-up, next-up}
-use Rattle.sets.specs.Sets.{plus}
+use Rattle.sets.specs.Sets.{with}
 use Rattle.nexts.proofs.Gather.{ToAdd, all-to-add, add-next, all-added}
 use borrow.Author.Needs.{needs}
 use Rattle.nexts.proofs.next_set.Statement.{statement}
@@ -110,14 +110,14 @@ module _ (c : tie.After-plain-at2 Inv-loop μ-loop) where
       ∙ ap natAbs (left-is (ws s) (s .args .z) (s .pre .1) (actionLine (ws s) (s .args .p) (s .args .c) + 1 + l .loop .i) _
       (omega (arith, s .pre .5))))
 
-  turn : (q < 64) × ToAdd (ws s) (s .args .p) (s .args .c) r (l .loop .i + 1) (plus (l .loop .set) q)
+  turn : (q < 64) × ToAdd (ws s) (s .args .p) (s .args .c) r (l .loop .i + 1) (with (l .loop .set) q)
   turn = add-next (ws s) (s .args .p) (s .args .c) r (l .loop .i) (l .loop .set) (l .loop .inv .1) q (omega arith) q-is
 
 add-q : tie.Need-add-q Inv-loop μ-loop
 add-q c = omega (arith, turn c)
 
-add-requires : tie.Need-add-requires Inv-loop μ-loop
-add-requires c κs = turn c .0
+with64-requires : tie.Need-with64-requires Inv-loop μ-loop
+with64-requires c κs = turn c .0
 
 loop-less : tie.Need-loop-less Inv-loop μ-loop
 loop-less c = search needs
@@ -125,7 +125,7 @@ loop-less c = search needs
 loop-again : tie.Need-loop-again Inv-loop μ-loop
 loop-again c =
     let t = turn (c .before) .1 in
-    (omega arith, subst (ToAdd (ws (s (c .before))) _ _ (r (c .before)) _) (sym (c .add .ensures)) t)
+    (omega arith, subst (ToAdd (ws (s (c .before))) _ _ (r (c .before)) _) (sym (c .with64 .ensures)) t)
 
 returns : tie.Need-returns Inv-loop μ-loop
 returns c =
@@ -149,7 +149,7 @@ next-set-spec =
     add-plain-at
     plain-at-requires-2
     add-q
-    add-requires
+    with64-requires
     loop-less
     loop-again
     returns)

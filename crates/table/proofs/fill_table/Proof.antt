@@ -3,9 +3,9 @@
 use mathlib.Core.Path.{_≡_, ap, _∙_, subst}
 use Prim.Native.Nat.{_+_, _-_, _≤_}
 use native.Mathlib.Omega.{arith}
+use Rattle.model.specs.Lists.{upFrom}
 use Rattle.model.specs.Model.{stateCount}
 use Rattle.model.specs.Recursion.{bestOf}
-use Rattle.masks.specs.Masks.{free}
 use Rattle.accepted.specs.Facts.{accepted}
 use Rattle.costs.proofs.ToGo.{least-bounded}
 use Rattle.costs.proofs.Sums.{read64}
@@ -89,7 +89,7 @@ loop-again c =
       l .loop .inv .0,
       omega arith,
       table-more ws (s .pre .0) p (omega arith) (l .loop .q) (l .loop .v) r t (f .fill-row .ensures) (y .result)
-          (y .ensures ∙ ap (λ n. rowOf r p (bestOf (rowOf r p) (free 0 0 n))) (c .before .before .count .ensures)
+          (y .ensures ∙ ap (λ n. rowOf r p (bestOf (rowOf r p) (upFrom 0 n))) (c .before .before .count .ensures)
           ∙ row-least ws (s .pre .0) p (omega arith) (l .loop .q) (l .loop .v) r t (f .fill-row .ensures)),
     )
 
