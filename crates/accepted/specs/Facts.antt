@@ -11,7 +11,7 @@ use lib.IntN.{pos, natAbs}
 use Rattle.model.specs.Lists.{all, maxTo}
 use Rattle.model.specs.Model.{Words, word, scale, horizon, lineCount, stateCount, stage, actionCount, left, right}
 use Rattle.model.specs.Model.{branches, lineAfter, stateLine, actionLine}
-use Rattle.model.specs.Questions.{firstNo, inside, mostActions, countsAllowed, everyAction, branchesAllowed, linesAllowed}
+use Rattle.model.specs.Questions.{firstNo, inside, mostLast, branchesInside, mostActions, countsAllowed, everyAction, branchesAllowed, linesAllowed}
 use Rattle.model.specs.Questions.{nextsAllowed, weightsAllowed, largestCost, costsBounded, sizeQuestions, actionQuestions, bookNumber}
 use Rattle.questions.specs.Ranges.{and-true, all-at, max-least, inside-range}
 use Rattle.questions.specs.FirstNo.{AllYes, passed, after, then-zero}
@@ -41,7 +41,7 @@ most-bound : (ws : Words) (n : ℕ) → mostActions ws n ≤ 8
 unfolding mostActions
 most-bound ws n = go (eqb n (horizon ws))
   where
-    go : (b : Bool) → cond b 1 8 ≤ 8
+    go : (b : Bool) → cond b mostLast 8 ≤ 8
     go true = omega arith
     go false = omega arith
 
@@ -63,12 +63,9 @@ each-action test ws e p c l k =
     (all-at (stateCount ws) (λ (p : ℕ). all (actionCount ws p) (λ (c : ℕ). test ws (stage ws p) (actionLine ws p c))) e p l) c k
 
 module _ (ws : Words) (n j : ℕ) (e : branchesAllowed ws n j ≡ true) where
-  branches-tests : (cond (eqb n (horizon ws)) (inside (pos 0) (pos 0) (left ws j)) (inside (pos 1) (pos 16) (left ws j)) ≡ true)
-      × (leb (lineAfter ws j) (lineCount ws) ≡ true)
+  branches-tests : (branchesInside (left ws j) n (horizon ws) ≡ true) × (leb (lineAfter ws j) (lineCount ws) ≡ true)
   unfolding branchesAllowed
-  branches-tests =
-      and-true (cond (eqb n (horizon ws)) (inside (pos 0) (pos 0) (left ws j)) (inside (pos 1) (pos 16) (left ws j)))
-      (leb (lineAfter ws j) (lineCount ws)) e
+  branches-tests = and-true (branchesInside (left ws j) n (horizon ws)) (leb (lineAfter ws j) (lineCount ws)) e
 
   no-branches : n ≡ horizon ws → branches ws j ≡ 0
   unfolding branches

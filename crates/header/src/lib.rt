@@ -77,18 +77,23 @@ pub fn size_number(b: &[i32]) -> u32
     0
 }
 
+// The most actions of a state of stage H, and of any other.
+const MOST_LAST: i32 = 1;
+
+const MOST_ACTIONS: i32 = 8;
+
 // 8, of one state of stage n, whose count is word i.
 fn count_allowed(b: &[i32], i: usize, n: usize, h: usize) -> bool
     requires { ⌜ i < length (now b) ⌝ }
     ensures { λ r. ⌜ r ≡ countAllowed (word (now (b .entry)) i) n h ⌝ }
 {
     if n == h {
-        return book::word_in(b, i, 1, 1);
+        return book::word_in(b, i, 1, MOST_LAST);
     }
-    book::word_in(b, i, 1, 8)
+    book::word_in(b, i, 1, MOST_ACTIONS)
 }
 
-// 8: are there 1 to 8 actions at each state, 1 at stage H?
+// 8, of every state.
 pub fn counts_allowed(b: &[i32], z: Sizes) -> bool
     requires { ⌜ Sized (now b) × SizesAre (now b) z ⌝ }
     ensures { λ r. ⌜ r ≡ countsAllowed (now (b .entry)) ⌝ }

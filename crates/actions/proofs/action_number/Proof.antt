@@ -41,10 +41,10 @@ module _ (c : tie.Else3) where
       bound
 
 -- question 10
-cost : (c : tie.After-word-in) → costAllowed (ws (s (c .before))) (s (c .before) .args .n) (s (c .before) .args .j) ≡ c .word-in .result
+cost : (c : tie.After-cost-allowed) → costAllowed (ws (s (c .before))) (s (c .before) .args .n) (s (c .before) .args .j) ≡ c .cost-allowed .result
 cost c =
     let t = s (c .before) in
-    cost-is (ws t) (t .args .z) (t .pre .1) (t .args .j) (t .args .n) ∙ sym (c .word-in .ensures)
+    cost-is (ws t) (t .args .z) (t .pre .1) (t .args .j) (t .args .n) ∙ sym (c .cost-allowed .ensures)
 
 cost-yes : (c : tie.Else4) → costAllowed (ws (s (c .before .before))) (s (c .before .before) .args .n) (s (c .before .before) .args .j) ≡ true
 cost-yes c = cost (c .before) ∙ not-false _ (c .if4 .left)
@@ -81,11 +81,11 @@ returns-3 c =
     let s = c .before .before .before .before .before .before in
     nine (ws s) (s .args .n) (s .args .j) (unfit (ws s) (s .args .n) (s .args .j) (omega (arith, r-is (c .before))))
 
-add-word-in : tie.Need-add-word-in
-add-word-in c = search needs
+add-cost-allowed : tie.Need-add-cost-allowed
+add-cost-allowed c = search needs
 
-word-in-requires : tie.Need-word-in-requires
-word-in-requires c κs = search needs
+cost-allowed-requires : tie.Need-cost-allowed-requires
+cost-allowed-requires c κs = search needs
 
 returns-4 : tie.Need-returns-4
 returns-4 c =
@@ -133,8 +133,8 @@ action-number-spec =
     size-at-requires
     add-if3-2
     returns-3
-    add-word-in
-    word-in-requires
+    add-cost-allowed
+    cost-allowed-requires
     returns-4
     nexts-allowed-requires
     returns-5
