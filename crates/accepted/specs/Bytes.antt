@@ -1,4 +1,4 @@
--- The bytes of a policy: as many as there are states, each an action of its state or 255.
+-- The bytes of a policy: as many as there are states, each an option of its state or 255.
 -- Assumes nothing.
 use mathlib.Core.Path.{_≡_, refl}
 use mathlib.Core.Bool.{Bool, true, false}
@@ -9,12 +9,12 @@ use native.Mathlib.Omega.{arith}
 use lib.Dec.{T-not}
 use lib.ListN.{length, getD}
 use Rattle.model.specs.Lists.{isIn}
-use Rattle.model.specs.Model.{Words, stateCount, actionCount}
+use Rattle.model.specs.Model.{Words, stateCount}
 use Rattle.model.specs.Questions.{bookNumber}
 use Rattle.model.specs.Policy.{Policy, isPolicy}
 use Rattle.model.specs.Path.{byteAt}
 use Rattle.laws.specs.Members.{isIn-in, in-isIn, true-T, false-T}
-use Rattle.accepted.specs.Shape.{options-below}
+use Rattle.accepted.specs.Options.{Option}
 use Rattle.accepted.specs.Demands.{reached, PolicyBytes, policy-bytes}
 
 -- a byte that is there is read whatever stands for a missing one
@@ -30,9 +30,9 @@ module _ (ws : Words) (ok : bookNumber ws ≡ 0) (bs : Policy) (is : isPolicy ws
   pub policy-long : length bs ≡ stateCount ws
   policy-long = bytes .long
 
-  pub byte-cases : (p : ℕ) → p < stateCount ws → (byteAt bs p ≡ 255) ⊎ (byteAt bs p < actionCount ws p)
+  pub byte-cases : (p : ℕ) → p < stateCount ws → (byteAt bs p ≡ 255) ⊎ Option ws p (byteAt bs p)
   byte-cases p state = go (isIn p (reached ws bs)) refl
     where
-      go : (b : Bool) → isIn p (reached ws bs) ≡ b → (byteAt bs p ≡ 255) ⊎ (byteAt bs p < actionCount ws p)
-      go true e = inr (options-below ws p (bytes .at-reached p state (isIn-in p (reached ws bs) (true-T e))))
+      go : (b : Bool) → isIn p (reached ws bs) ≡ b → (byteAt bs p ≡ 255) ⊎ Option ws p (byteAt bs p)
+      go true e = inr (bytes .at-reached p state (isIn-in p (reached ws bs) (true-T e)))
       go false e = inl (bytes .at-other p state (λ i. T-not (isIn p (reached ws bs)) (false-T e) (in-isIn p (reached ws bs) i)))

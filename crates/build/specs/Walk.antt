@@ -8,10 +8,11 @@ use Prim.Native.Nat.{ℕ, zero, suc, _-_, _<_}
 use lib.Dec.{eqb, ltb}
 use lib.ListN.{length, take, drop}
 use Rattle.model.specs.Lists.{isIn}
-use Rattle.model.specs.Model.{Words, Action, stateCount, actionCount, action}
+use Rattle.model.specs.Model.{Words, Action, stateCount, action}
 use Rattle.model.specs.Policy.{Policy, onward}
 use Rattle.model.specs.Path.{byteAt}
 use Rattle.laws.specs.Greedy.{byteOf}
+use Rattle.accepted.specs.Options.{Option}
 use Rattle.sets.specs.Sets.{has, SetOf}
 use Rattle.build.specs.Best.{bestAt}
 
@@ -30,9 +31,9 @@ splitBy f r c g s = cond (ltb s r) (f s) (cond (eqb s r) c (g s))
 abbrev pub chosen : Words → Policy → ℕ → ℕ → ℕ → ℕ
 chosen ws bs r c = splitBy (byteAt bs) r c (bestAt ws)
 
--- the byte of state s is there, and is an action of the state or 255
+-- the byte of state s is there, and is an option of the state or 255
 abbrev pub ActionOrNone : Words → Policy → ℕ → Type 0
-ActionOrNone ws bs s = (s < length bs) × ((byteAt bs s ≡ 255) ⊎ (byteAt bs s < actionCount ws s))
+ActionOrNone ws bs s = (s < length bs) × ((byteAt bs s ≡ 255) ⊎ Option ws s (byteAt bs s))
 
 -- each byte before state r is
 abbrev pub Usable : Words → Policy → ℕ → Type 0

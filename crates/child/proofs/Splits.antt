@@ -10,28 +10,26 @@ use borrow.Author.Tests.{le-leb, ne-eqb, eq-eqb}
 use lib.Dec.{T, T-not, leb}
 use lib.IntN.{ℤ}
 use Rattle.model.specs.Lists.{isIn}
-use Rattle.model.specs.Model.{Words, stateCount, actionCount, action, options}
+use Rattle.model.specs.Model.{Words, stateCount, action}
 use Rattle.model.specs.Questions.{bookNumber}
 use Rattle.model.specs.Policy.{Policy}
 use Rattle.model.specs.Path.{byteAt}
 use Rattle.model.specs.Recursion.{bestOf}
 use Rattle.questions.specs.Ranges.{and-right}
 use Rattle.laws.specs.Members.{In, Every, every-in, in-every, isIn-in, in-isIn, true-T, false-T}
-use Rattle.laws.specs.Best.{best-in}
-use Rattle.accepted.specs.Facts.{accepted}
-use Rattle.accepted.specs.Shape.{shape, options-below}
+use Rattle.laws.specs.Best.{best-in, best-cases}
+use Rattle.accepted.specs.Options.{Option, option-small}
+use Rattle.accepted.specs.Shape.{shape}
 use Rattle.accepted.specs.Demands.{reached, policy-bytes}
-use Rattle.sets.specs.Sets.{free-in}
 use Rattle.splits.specs.Parts.{Reaches, reaches-is}
 use Rattle.stored.specs.Entry.{Entry}
-use Rattle.stored.specs.Lists.{left}
+use Rattle.stored.specs.Lists.{left, left-option}
 use Rattle.stored.specs.Children.{Right, maskAt, childEntry, addIf, splitsAt, plan-model}
 use Rattle.accepted.specs.Bytes.{byte-cases, policy-long}
 
 -- a first best action tells whether a list has one
 best-some : (f : ℕ → ℤ) (xs : List ℕ) → (bestOf f xs ≡ 255 → ⊥) → In (bestOf f xs) xs
-best-some f [] h = absurd (h refl)
-best-some f (x ∷ xs) h = best-in f (x ∷ xs) x (inl refl)
+best-some f xs h = ⊎-elim (λ e. absurd (h e)) (λ i. i) (best-cases f xs)
 
 best-none : (f : ℕ → ℤ) (xs : List ℕ) → Every (λ c. c < 8) xs → bestOf f xs ≡ 255 → xs ≡ []
 best-none f [] h e = refl
@@ -62,15 +60,15 @@ module _ (ws : Words) (ok : bookNumber ws ≡ 0) (e : Entry) (ri : Right ws e) (
       small : Every (λ c. c < 8) (left ws p (maskAt e p))
       small =
           in-every (λ c. c < 8) (left ws p (maskAt e p))
-          (λ c i. omega (arith, options-below ws p (free-in (maskAt e p) c (options ws p) i), accepted ws ok .counts-high p state))
+          (λ c i. option-small ws ok p state (left-option ws p (maskAt e p) c i))
 
-  -- any other byte is an action of a reached state
+  -- any other byte is an option of a reached state
   module _ (other : byteAt (e .plan) p ≡ 255 → ⊥) where
-    pub own-action : byteAt (e .plan) p < actionCount ws p
-    own-action = ⊎-elim (λ b. absurd (other b)) (λ l. l) (byte-cases ws ok (e .plan) (plan-model ws ok e ri) p state)
+    pub own-option : Option ws p (byteAt (e .plan) p)
+    own-option = ⊎-elim (λ b. absurd (other b)) (λ o. o) (byte-cases ws ok (e .plan) (plan-model ws ok e ri) p state)
 
     pub own-small : byteAt (e .plan) p < 8
-    own-small = omega (arith, own-action, accepted ws ok .counts-high p state)
+    own-small = option-small ws ok p state own-option
 
     pub reaches-here : Reaches (action ws) p 0 (0 ∷ []) (e .plan)
     reaches-here = go (isIn p (reached ws (e .plan))) refl

@@ -1,6 +1,6 @@
 -- The costs-to-go of a state by those of its next states, as a pass from the last state to the first meets them.
 -- Assumes nothing.
-use mathlib.Core.Path.{_≡_, refl, ap, _∙_, subst}
+use mathlib.Core.Path.{_≡_, refl, sym, ap, _∙_, subst}
 use mathlib.Core.List.{List}
 use Prim.Native.Nat.{ℕ, _+_, _*_, _^_, _≤_, _<_}
 use native.Mathlib.Omega.{arith}
@@ -15,7 +15,7 @@ use Rattle.model.specs.Policy.{Policy}
 use Rattle.model.specs.Path.{byteAt, taken}
 use Rattle.model.specs.Recursion.{actionCost, costToGo, through, leastToGo}
 use Rattle.laws.specs.ToGo.{expected-same, by-stage}
-use Rattle.laws.specs.Members.{every-both}
+use Rattle.laws.specs.Members.{AtNexts, every-both}
 use Rattle.laws.specs.Bounds.{to-go-bound, least-bound}
 use Rattle.accepted.specs.Shape.{shape, cost-bound, weights-bound}
 use Rattle.costs.specs.Terms.{valueAt, most, Bounded}
@@ -36,36 +36,40 @@ module _ (ws : Words) (ok : bookNumber ws ≡ 0) where
       by-stage (scale ws) (togo ws) (leastToGo (scale ws) (action ws) (options ws)) p (action ws p c) (shape ws ok .step p c)
       (λ m. through (scale ws) (action ws) (options ws) m p c) refl (λ m. refl)
 
-  -- an array that holds a cost-to-go of every state from p on
-  abbrev pub Holds : (ℕ → ℤ) → ℕ → List ℤ → Type 0
-  Holds u p v = (q : ℕ) → p ≤ q → q < stateCount ws → valueAt v q ≡ u q
+  -- an array that holds the cost-to-go u of each state of a set from p on
+  abbrev pub Holds : (ℕ → Type 0) → (ℕ → ℤ) → ℕ → List ℤ → Type 0
+  Holds P u p v = (q : ℕ) → p ≤ q → P q → valueAt v q ≡ u q
 
-  -- an action's cost by such an array
-  pub by-array : (u : ℕ → ℤ) (p c : ℕ) (v : List ℤ) → Holds u (p + 1) v
+  abbrev State : ℕ → Type 0
+  State q = q < stateCount ws
+
+  -- the cost of an action that leads to states of the set, by such an array
+  pub by-array : (P : ℕ → Type 0) (u : ℕ → ℤ) (p c : ℕ) (v : List ℤ) → AtNexts P (action ws p c .transitions) → Holds P u (p + 1) v
       → actionCost (scale ws) (togo ws p) (valueAt v) (action ws p c) ≡ actionCost (scale ws) (togo ws p) u (action ws p c)
-  by-array u p c v h =
+  by-array P u p c v n h =
       ap (λ (y : ℤ). pos (scale ws ^ togo ws p) *ℤ action ws p c .cost +ℤ y)
       (expected-same (valueAt v) u (action ws p c .transitions)
-      (every-both {P = λ t. p < t .next} {Q = λ t. t .next < stateCount ws} (λ t l i. h (t .next) (omega arith) i) (action ws p c .transitions)
-      (shape ws ok .later p c) (shape ws ok .inside p c)))
+      (every-both {P = λ t. p < t .next} {Q = λ t. P (t .next)} (λ t l i. h (t .next) (omega arith) i) (action ws p c .transitions)
+      (shape ws ok .later p c) n))
 
   -- bounds of what it holds
-  pub policy-bounded : (bs : Policy) (p : ℕ) (v : List ℤ) → Holds (λ q. costToGo (scale ws) (taken ws bs) (togo ws q) q) (p + 1) v → Bounded ws p v
+  pub policy-bounded : (bs : Policy) (p : ℕ) (v : List ℤ) → Holds State (λ q. costToGo (scale ws) (taken ws bs) (togo ws q) q) (p + 1) v → Bounded ws p v
   unfolding most taken
   policy-bounded bs p v h q l i =
       rw (h q (omega arith) i)
       (to-go-bound (scale ws) (largestCost ws) (taken ws bs) (λ p. cost-bound ws ok p (byteAt bs p)) (λ p. weights-bound ws ok p (byteAt bs p)) (togo ws q) q)
 
-  pub least-bounded : (p : ℕ) (v : List ℤ) → Holds (λ q. leastToGo (scale ws) (action ws) (options ws) (togo ws q) q) (p + 1) v → Bounded ws p v
+  pub least-bounded : (p : ℕ) (v : List ℤ) → Holds State (λ q. leastToGo (scale ws) (action ws) (options ws) (togo ws q) q) (p + 1) v → Bounded ws p v
   unfolding most
   least-bounded p v h q l i =
       rw (h q (omega arith) i)
       (least-bound (scale ws) (largestCost ws) (action ws) (options ws) (cost-bound ws ok) (weights-bound ws ok) (togo ws q) q)
 
   -- one state more
-  pub holds-more : (u : ℕ → ℤ) (p : ℕ) (v : List ℤ) (y : ℤ) → p < length v → y ≡ u p → Holds u (p + 1) v → Holds u p (set v p y)
-  holds-more u p v y l e h q a b = go (eq-or-lt-of-le a)
+  pub holds-more : (P : ℕ → Type 0) (u : ℕ → ℤ) (p : ℕ) (v : List ℤ) (y : ℤ) → p < length v → (P p → y ≡ u p) → Holds P u (p + 1) v
+      → Holds P u p (set v p y)
+  holds-more P u p v y l e h q a b = go (eq-or-lt-of-le a)
     where
       go : (p ≡ q) ⊎ (p < q) → valueAt (set v p y) q ≡ u q
-      go (inl k) = subst (λ (n : ℕ). valueAt (set v p y) n ≡ u n) k (getD-set-same v p y (pos 0) l ∙ e)
+      go (inl k) = subst (λ (n : ℕ). valueAt (set v p y) n ≡ u n) k (getD-set-same v p y (pos 0) l ∙ e (subst P (sym k) b))
       go (inr k) = getD-set-other v p q y (pos 0) (λ r. absurd (omega arith)) ∙ h q (omega arith) b

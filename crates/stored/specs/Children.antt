@@ -19,14 +19,15 @@ use Rattle.model.specs.Path.{byteAt}
 use Rattle.laws.specs.Members.{In, in-one, Every, isIn-in, true-T, T-true}
 use Rattle.laws.specs.Policies.{IsPolicy, Reads, reads}
 use Rattle.laws.specs.First.{Lists, costFrom0, firstPolicy, is-policy}
+use Rattle.accepted.specs.Options.{Option, Alive}
 use Rattle.accepted.specs.Shape.{shape, policy-is}
 use Rattle.accepted.specs.Demands.{other-byte}
-use Rattle.sets.specs.Sets.{with, free-all, free-in}
+use Rattle.sets.specs.Sets.{with, free-all}
 use Rattle.splits.specs.Parts.{without, part, split-lt, split-eq, split-gt, Reaches, sound}
 use Rattle.splits.specs.Kbest.{addChild, childrenFrom, childAt, children, child-lists}
 use Rattle.splits.specs.ChildCost.{child-front}
 use Rattle.stored.specs.Entry.{Entry}
-use Rattle.stored.specs.Lists.{left, listsOf, free-without, by-place, lists-before, lists-here, lists-after}
+use Rattle.stored.specs.Lists.{left, left-option, listsOf, free-without, by-place, lists-before, lists-here, lists-after}
 
 -- the first policy of lists of actions
 abbrev pub firstOf : Words → (ℕ → List ℕ) → Policy
@@ -37,7 +38,7 @@ costOf ws bs = costFrom0 (scale ws) (action ws) (togo ws) bs
 
 -- what is stored of a candidate is right: its bytes are the first policy of its lists, with its cost
 pub record Right (ws : Words) (e : Entry) : Type 0 where
-  pub lists : Lists (λ p. p < stateCount ws) (action ws) (listsOf ws e)
+  pub lists : Lists (Alive ws) (action ws) (listsOf ws e)
   pub plan-is : e .plan ≡ firstOf ws (listsOf ws e)
   pub cost-is : e .cost ≡ costOf ws (e .plan)
   -- the policies of its lists are the model's
@@ -97,7 +98,7 @@ module _ (ws : Words) (ok : bookNumber ws ≡ 0) (e : Entry) (ri : Right ws e) w
   pub plan-policy : IsPolicy (action ws) (listsOf ws e) (stateCount ws) 0 (0 ∷ []) (e .plan)
   plan-policy =
       subst (IsPolicy (action ws) (listsOf ws e) (stateCount ws) 0 (0 ∷ [])) (sym (ri .plan-is))
-      (is-policy (scale ws) (stateCount ws) (action ws) (togo ws) (shape ws ok) (λ p. p < stateCount ws) (listsOf ws e) (ri .lists))
+      (is-policy (scale ws) (stateCount ws) (action ws) (togo ws) (shape ws ok) (Alive ws) (listsOf ws e) (ri .lists))
 
   -- and so of the model
   pub plan-model : isPolicy ws (e .plan) ≡ true
@@ -120,7 +121,7 @@ module _ (ws : Words) (ok : bookNumber ws ≡ 0) (e : Entry) (ri : Right ws e) w
 
     front : (s : ℕ) → s < p → byteAt (firstOf ws child) s ≡ byteAt (firstOf ws (listsOf ws e)) s
     front s h =
-        child-front (scale ws) (stateCount ws) (action ws) (togo ws) (shape ws ok) (λ p. p < stateCount ws) (options ws) (listsOf ws e) (ri .lists) p after
+        child-front (scale ws) (stateCount ws) (action ws) (togo ws) (shape ws ok) (Alive ws) (options ws) (listsOf ws e) (ri .lists) p after
         reached′ some′ s h
 
     -- its lists are those of the child
@@ -138,8 +139,8 @@ module _ (ws : Words) (ok : bookNumber ws ≡ 0) (e : Entry) (ri : Right ws e) w
     pub child-right : Right ws (childEntry ws e p)
     child-right =
         record {
-          lists = subst (Lists (λ p. p < stateCount ws) (action ws)) (sym child-is)
-              (child-lists (scale ws) (stateCount ws) (action ws) (togo ws) (shape ws ok) (λ p. p < stateCount ws) (listsOf ws e) (ri .lists) p (some′ .0) (some′ .1));
+          lists = subst (Lists (Alive ws) (action ws)) (sym child-is)
+              (child-lists (scale ws) (stateCount ws) (action ws) (togo ws) (shape ws ok) (Alive ws) (listsOf ws e) (ri .lists) p (some′ .0) (some′ .1));
           plan-is = ap (firstOf ws) (sym child-is);
           cost-is = refl;
           among = λ u h. ri .among u
@@ -157,8 +158,8 @@ module _ (ws : Words) (ok : bookNumber ws ≡ 0) (e : Entry) (ri : Right ws e) w
     where
       go : (b : Bool) → In g (Rattle.model.specs.Policy.allowed (listsOf ws e p) b) → b ≡ not (eqb g 255)
       go true i =
-          let o = free-in (cond (eqb p (e .split)) (e .mask) 0) g (options ws p) (subst (In g) (lists-left p h) i) in
-          sym (ap not (ne-eqb g 255 (λ q. other-byte ws ok p s (subst (λ (c : ℕ). In c (options ws p)) q o))))
+          let o = left-option ws p (cond (eqb p (e .split)) (e .mask) 0) g (subst (In g) (lists-left p h) i) in
+          sym (ap not (ne-eqb g 255 (λ q. other-byte ws ok p s (subst (Option ws p) q o))))
       go false i = sym (ap not (eq-eqb g 255 (in-one i)))
 
   -- before the split nothing is left

@@ -12,6 +12,7 @@ use Rattle.model.specs.Path.{byteAt}
 use Rattle.model.specs.Recursion.{bestOf, through}
 use Rattle.laws.specs.Members.{In}
 use Rattle.laws.specs.ToGo.{through-same}
+use Rattle.accepted.specs.Options.{Alive}
 use Rattle.accepted.specs.Shape.{shape}
 use Rattle.splits.specs.Parts.{without, split-lt, split-eq, split-gt, Reaches}
 use Rattle.splits.specs.Kbest.{childAt}
@@ -66,7 +67,7 @@ module _ (ws : Words) (ok : bookNumber ws ≡ 0) (e : Entry) (ri : Right ws e) (
   pub cost-moves : Reaches (action ws) p 0 (0 ∷ []) (e .plan) → (some : (c : ℕ) × In c (left ws p (maskAt e p)))
       → childEntry ws e p .cost ≡ e .cost +ℤ pos (reachWeight (action ws) (e .plan) p) *ℤ (row p nextAt -ℤ row p (byteAt (e .plan) p))
   cost-moves reached some =
-      child-cost-by (scale ws) (stateCount ws) (action ws) (togo ws) (shape ws ok) (λ p. p < stateCount ws) (options ws) (listsOf ws e) (ri .lists) p after
+      child-cost-by (scale ws) (stateCount ws) (action ws) (togo ws) (shape ws ok) (Alive ws) (options ws) (listsOf ws e) (ri .lists) p after
       (subst (Reaches (action ws) p 0 (0 ∷ [])) (ri .plan-is) reached)
       (some .0, subst (λ (bs : Policy). In (some .0) (without (byteAt bs p) (listsOf ws e p))) (ri .plan-is) (subst (In (some .0)) (left-is ws ok e ri p from) (some .1)))
       ∙ ap (λ (bs : Policy). costOf ws bs +ℤ pos (reachWeight (action ws) bs p)

@@ -10,13 +10,18 @@ use borrow.Author.Tests.{eqb-true, ne-eqb, eq-eqb}
 use lib.Dec.{eqb}
 use Rattle.model.specs.Model.{Words, options}
 use Rattle.model.specs.Path.{byteAt}
-use Rattle.sets.specs.Sets.{has, with, free, has-with, free-all}
+use Rattle.laws.specs.Members.{In}
+use Rattle.accepted.specs.Options.{Option}
+use Rattle.sets.specs.Sets.{has, with, free, has-with, free-all, free-in}
 use Rattle.splits.specs.Parts.{without, splitAt, split-lt, split-eq, split-gt}
 use Rattle.stored.specs.Entry.{Entry}
 
 -- the options that set `mask` leaves at state p
 abbrev pub left : Words → ℕ → ℕ → List ℕ
 left ws p mask = free mask (options ws p)
+
+pub left-option : (ws : Words) (p mask c : ℕ) → In c (left ws p mask) → Option ws p c
+left-option ws p mask c i = free-in mask c (options ws p) i
 
 abbrev pub listsOf : Words → Entry → ℕ → List ℕ
 listsOf ws e = splitAt (byteAt (e .plan)) (e .split) (left ws (e .split) (e .mask)) (options ws)

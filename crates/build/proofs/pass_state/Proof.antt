@@ -9,8 +9,10 @@ use Rattle.model.specs.Model.{Words, actionCount, action}
 use Rattle.model.specs.Policy.{Policy, nexts, onward}
 use Rattle.model.specs.Path.{byteAt}
 use Rattle.accepted.specs.Facts.{accepted}
+use Rattle.accepted.specs.Options.{Option, option-below}
+use Rattle.accepted.specs.Bytes.{byte-is}
 use Rattle.sets.specs.Sets.{SetOf, set-union}
-use Rattle.build.proofs.Prefix.{passed-more, passed-bare, byte-there}
+use Rattle.build.proofs.Prefix.{passed-more, passed-bare}
 use borrow.Author.Needs.{needs}
 use Rattle.build.proofs.pass_state.Statement.{statement}
 use Rattle.build.proofs.pass_state.Tie as tie
@@ -22,7 +24,7 @@ abbrev bs : tie.Start → Policy
 bs s = s .args .plan .now
 
 there : (s : tie.Start) → getD (bs s) (s .args .s) 0 ≡ byteAt (bs s) (s .args .s)
-there s = byte-there (bs s) (s .args .s) (s .pre .3 .0)
+there s = byte-is (bs s) (s .args .s) 0 255 (s .pre .3 .0)
 
 shared-slice-read-a : tie.Need-shared-slice-read-a
 shared-slice-read-a c = c .before .before .pre .3 .0
@@ -43,9 +45,9 @@ module _ (c : tie.Else1) where
   below : getD (bs s) (s .args .s) 0 < actionCount (ws s) (s .args .s)
   below = go (s .pre .3 .1)
     where
-      go : (byteAt (bs s) (s .args .s) ≡ 255) ⊎ (byteAt (bs s) (s .args .s) < actionCount (ws s) (s .args .s)) → getD (bs s) (s .args .s) 0 < actionCount (ws s) (s .args .s)
+      go : (byteAt (bs s) (s .args .s) ≡ 255) ⊎ Option (ws s) (s .args .s) (byteAt (bs s) (s .args .s)) → getD (bs s) (s .args .s) 0 < actionCount (ws s) (s .args .s)
       go (inl e) = absurd (c .if1 .left (there s ∙ e))
-      go (inr l) = subst (λ (a : ℕ). a < actionCount (ws s) (s .args .s)) (sym (there s)) l
+      go (inr o) = subst (λ (a : ℕ). a < actionCount (ws s) (s .args .s)) (sym (there s)) (option-below (ws s) (s .args .s) o)
 
   small : (getD (bs s) (s .args .s) 0 < 8) × (s .args .s < 64)
   small = (

@@ -9,6 +9,7 @@ use lib.ListN.{getD}
 use Rattle.model.specs.Model.{Words, actionCount, action}
 use Rattle.model.specs.Path.{byteAt}
 use Rattle.accepted.specs.Facts.{accepted}
+use Rattle.accepted.specs.Options.{Option, option-below}
 use Rattle.book.proofs.Words.{no, yes′}
 use Rattle.sets.specs.Sets.{has}
 use Rattle.build.specs.Best.{bestAt}
@@ -50,10 +51,10 @@ module _ (c : tie.After-choice) where
       ∙ split-same (byteAt (s .args .plan .now)) (s .args .r) (s .args .c) (λ p. getD (s .args .best .now) p 0) (bestAt ws) (s .args .s)
       (s .pre .2 .best-is (s .args .s) (s .pre .5))
 
-  cases : (c .choice .result ≡ 255) ⊎ (c .choice .result < actionCount ws (s .args .s))
+  cases : (c .choice .result ≡ 255) ⊎ Option ws (s .args .s) (c .choice .result)
   cases =
-      subst (λ a. (a ≡ 255) ⊎ (a < actionCount ws (s .args .s))) (sym is)
-      (chosen-cases ws (s .pre .0) (s .args .plan .now) (s .args .r) (s .args .c) (s .pre .3) (s .pre .4) (s .args .s) (s .pre .5))
+      subst (λ a. (a ≡ 255) ⊎ Option ws (s .args .s) a) (sym is)
+      (chosen-cases ws (s .args .plan .now) (s .args .r) (s .args .c) (s .pre .3) (s .pre .4) (s .args .s))
 
 returns-2 : tie.Need-returns-2
 returns-2 c =
@@ -61,10 +62,10 @@ returns-2 c =
     let s = s a in
     step-none (ws a) (s .pre .0) (s .args .s) (s .args .reach) _ (a .choice .result) (in-it a) (is a) (c .if2 .taken)
 
--- past the second test it is an action of the state
+-- past the second test it is an option of the state
 module _ (c : tie.Else2) where
   below : c .before .choice .result < actionCount (ws (c .before)) (s (c .before) .args .s)
-  below = ⊎-elim (λ e. absurd (c .if2 .left e)) (λ l. l) (cases (c .before))
+  below = ⊎-elim (λ e. absurd (c .if2 .left e)) (option-below (ws (c .before)) (s (c .before) .args .s)) (cases (c .before))
 
   small : (c .before .choice .result < 8) × (s (c .before) .args .s < 64)
   small =
