@@ -7,11 +7,11 @@ use native.Mathlib.Nat.{le-trans}
 use native.Mathlib.Omega.{arith}
 use borrow.Author.Tests.{leb-true, eq-eqb}
 use lib.Dec.{leb, eqb}
-use lib.IntN.{pos, natAbs}
+use lib.IntN.{natAbs}
 use Rattle.model.specs.Lists.{all, maxTo}
 use Rattle.model.specs.Model.{Words, word, scale, horizon, lineCount, stateCount, stage, actionCount, left, right}
 use Rattle.model.specs.Model.{branches, lineAfter, stateLine, actionLine}
-use Rattle.model.specs.Questions.{firstNo, inside, mostLast, branchesInside, mostActions, countsAllowed, everyAction, branchesAllowed, linesAllowed}
+use Rattle.model.specs.Questions.{firstNo, mostLast, mostAt, branchesInside, countAllowed, countsAllowed, everyAction, branchesAllowed, linesAllowed}
 use Rattle.model.specs.Questions.{nextsAllowed, weightsAllowed, largestCost, costsBounded, sizeQuestions, actionQuestions, bookNumber}
 use Rattle.questions.specs.Ranges.{and-true, all-at, max-least, inside-range}
 use Rattle.questions.specs.FirstNo.{AllYes, passed, after, then-zero}
@@ -37,20 +37,18 @@ pub record Accepted (ws : Words) : Type 0 where
 
 -- ---- 8
 
-most-bound : (ws : Words) (n : ℕ) → mostActions ws n ≤ 8
-unfolding mostActions
-most-bound ws n = go (eqb n (horizon ws))
+most-bound : (n h : ℕ) → mostAt n h ≤ 8
+most-bound n h = go (eqb n h)
   where
     go : (b : Bool) → cond b mostLast 8 ≤ 8
     go true = omega arith
     go false = omega arith
 
 count-range : (ws : Words) → countsAllowed ws ≡ true → (p : ℕ) → p < stateCount ws
-    → (1 ≤ actionCount ws p) × (actionCount ws p ≤ mostActions ws (stage ws p))
-unfolding countsAllowed actionCount
+    → (1 ≤ actionCount ws p) × (actionCount ws p ≤ mostAt (stage ws p) (horizon ws))
+unfolding countsAllowed countAllowed actionCount
 count-range ws e p l =
-    inside-range 1 (mostActions ws (stage ws p)) (word ws (4 + horizon ws + p))
-    (all-at (stateCount ws) (λ (p : ℕ). inside (pos 1) (pos (mostActions ws (stage ws p))) (word ws (4 + horizon ws + p))) e p l)
+    inside-range 1 (mostAt (stage ws p) (horizon ws)) (word ws (4 + horizon ws + p)) (all-at (stateCount ws) (countAllowed ws) e p l)
 
 -- ---- 9 to 12
 
@@ -98,7 +96,7 @@ accepted ws ok =
     record {
       sizes = sized ws (both .0);
       counts-low = λ p l. count-range ws (y .0) p l .0;
-      counts-high = λ p l. le-trans (count-range ws (y .0) p l .1) (most-bound ws (stage ws p));
+      counts-high = λ p l. le-trans (count-range ws (y .0) p l .1) (most-bound (stage ws p) (horizon ws));
       branches-allowed = nine;
       branches-last = λ p c l k. no-branches ws (stage ws p) (actionLine ws p c) (nine p c l k);
       lines-fit = λ p c l k. fit ws (stage ws p) (actionLine ws p c) (nine p c l k);

@@ -4,16 +4,16 @@ use book::Stage;
 ghost use mathlib.Core.Path.{_≡_};
 ghost use Prim.Native.Nat.{_+_, _<_, _≤_};
 ghost use lib.ListN.{length};
+ghost use Rattle.model.specs.Lists.{all};
 ghost use Rattle.model.specs.Model.{word, horizon};
-ghost use Rattle.model.specs.Questions.{firstNo, sizesAllowed, lengthAllowed, countsAllowed, sizeQuestions};
+ghost use Rattle.model.specs.Questions.{firstNo, countInside, laterSize, sizesAllowed, lengthAllowed, countsAllowed, sizeQuestions};
 ghost use Rattle.questions.specs.Sizes.{Sized};
 ghost use Rattle.book.specs.Read.{Headed, SizesAre};
-ghost use Rattle.header.specs.Counts.{laterSizes, countAllowed};
 
 // 6, for the stages from 1 on: are there 1 to 16 states at each?
 fn later_sizes(b: &[i32], h: usize) -> bool
     requires { ⌜ (h ≡ horizon (now b)) × (h ≤ 8) × (4 + h ≤ length (now b)) ⌝ }
-    ensures { λ r. ⌜ r ≡ laterSizes (now (b .entry)) ⌝ }
+    ensures { λ r. ⌜ r ≡ all (horizon (now (b .entry))) (laterSize (now (b .entry))) ⌝ }
 {
     let mut n: usize = 0;
     while n < h {
@@ -85,7 +85,7 @@ const MOST_ACTIONS: i32 = 8;
 // 8, of one state of stage n, whose count is word i.
 fn count_allowed(b: &[i32], i: usize, n: usize, h: usize) -> bool
     requires { ⌜ i < length (now b) ⌝ }
-    ensures { λ r. ⌜ r ≡ countAllowed (word (now (b .entry)) i) n h ⌝ }
+    ensures { λ r. ⌜ r ≡ countInside (word (now (b .entry)) i) n h ⌝ }
 {
     if n == h {
         return book::word_in(b, i, 1, MOST_LAST);

@@ -39,6 +39,9 @@ mostLast = 1
 abbrev pub mostAt : ℕ → ℕ → ℕ
 mostAt n h = cond (eqb n h) mostLast 8
 
+abbrev pub countInside : ℤ → ℕ → ℕ → Bool
+countInside z n h = inside (pos 1) (pos (mostAt n h)) z
+
 -- "r from 1 to 16 before stage H", "with r = 0" at stage H
 abbrev pub fewestBranches : ℕ
 fewestBranches = 1
@@ -55,23 +58,24 @@ costInside z = inside (negsuc 99999) (pos 100000) z
 
 -- ---- 6 to 8: sizes
 
--- "one post at stage 0 and 1 to 16 at every other; S at most 64"
+-- "one post at stage 0 and 1 to 16 at every other; S at most 64": of the stage after stage n, and of all
+abbrev pub laterSize : Words → ℕ → Bool
+laterSize ws n = inside (pos 1) (pos 16) (word ws (4 + n))
+
 unfoldable pub sizesAllowed : Words → Bool
 sizesAllowed ws =
-    inside (pos 1) (pos 1) (word ws 3) && all (horizon ws) (λ (n : ℕ). inside (pos 1) (pos 16) (word ws (4 + n)))
-    && leb (stateCount ws) 64
+    inside (pos 1) (pos 1) (word ws 3) && all (horizon ws) (laterSize ws) && leb (stateCount ws) 64
 
 -- "Is the length exactly 4 + H + S + 2L words?"
 unfoldable pub lengthAllowed : Words → Bool
 lengthAllowed ws = eqb (length ws) (4 + horizon ws + stateCount ws + 2 * lineCount ws)
 
--- the most actions that a state of stage n may have
-unfoldable pub mostActions : Words → ℕ → ℕ
-mostActions ws n = mostAt n (horizon ws)
+-- "Are the choice counts as allowed, 1 at stage H?": of state p, and of all
+unfoldable pub countAllowed : Words → ℕ → Bool
+countAllowed ws p = countInside (word ws (4 + horizon ws + p)) (stage ws p) (horizon ws)
 
 unfoldable pub countsAllowed : Words → Bool
-countsAllowed ws =
-    all (stateCount ws) (λ (p : ℕ). inside (pos 1) (pos (mostActions ws (stage ws p))) (word ws (4 + horizon ws + p)))
+countsAllowed ws = all (stateCount ws) (countAllowed ws)
 
 -- ---- 9 to 12: a test of each action, handed its state's stage and its first line
 

@@ -10,7 +10,7 @@ use lib.IntN.{pos, natAbs}
 use lib.ListN.{length}
 use Rattle.model.specs.Lists.{all}
 use Rattle.model.specs.Model.{Words, word, scale, horizon, lineCount, stageSize, stateCount}
-use Rattle.model.specs.Questions.{firstNo, inside, sizesAllowed, lengthAllowed, sizeQuestions}
+use Rattle.model.specs.Questions.{firstNo, inside, laterSize, sizesAllowed, lengthAllowed, sizeQuestions}
 use Rattle.questions.specs.Ranges.{and-true, all-at, inside-range}
 use Rattle.questions.specs.FirstNo.{passed}
 
@@ -31,11 +31,11 @@ pub sizes-say : (ws : Words) → sizesAllowed ws ≡ true
 unfolding sizesAllowed stageSize
 sizes-say ws e = (one, sizes, leb-true (stateCount ws) 64 (p .1))
   where
-    p : ((inside (pos 1) (pos 1) (word ws 3) && all (horizon ws) (λ (n : ℕ). inside (pos 1) (pos 16) (word ws (4 + n)))) ≡ true) × (leb (stateCount ws) 64 ≡ true)
-    p = and-true (inside (pos 1) (pos 1) (word ws 3) && all (horizon ws) (λ (n : ℕ). inside (pos 1) (pos 16) (word ws (4 + n)))) (leb (stateCount ws) 64) e
+    p : ((inside (pos 1) (pos 1) (word ws 3) && all (horizon ws) (laterSize ws)) ≡ true) × (leb (stateCount ws) 64 ≡ true)
+    p = and-true (inside (pos 1) (pos 1) (word ws 3) && all (horizon ws) (laterSize ws)) (leb (stateCount ws) 64) e
 
-    q : (inside (pos 1) (pos 1) (word ws 3) ≡ true) × (all (horizon ws) (λ (n : ℕ). inside (pos 1) (pos 16) (word ws (4 + n))) ≡ true)
-    q = and-true (inside (pos 1) (pos 1) (word ws 3)) (all (horizon ws) (λ (n : ℕ). inside (pos 1) (pos 16) (word ws (4 + n)))) (p .0)
+    q : (inside (pos 1) (pos 1) (word ws 3) ≡ true) × (all (horizon ws) (laterSize ws) ≡ true)
+    q = and-true (inside (pos 1) (pos 1) (word ws 3)) (all (horizon ws) (laterSize ws)) (p .0)
 
     one : natAbs (word ws 3) ≡ 1
     one = let r = inside-range 1 1 (word ws 3) (q .0) in omega arith
@@ -45,7 +45,7 @@ sizes-say ws e = (one, sizes, leb-true (stateCount ws) 64 (p .1))
     sizes (suc n) h =
         let k : 4 + n ≡ 3 + suc n = omega arith in
         subst (λ (i : ℕ). (1 ≤ natAbs (word ws i)) × (natAbs (word ws i) ≤ 16)) k
-        (inside-range 1 16 (word ws (4 + n)) (all-at (horizon ws) (λ (n : ℕ). inside (pos 1) (pos 16) (word ws (4 + n))) (q .1) n (omega arith)))
+        (inside-range 1 16 (word ws (4 + n)) (all-at (horizon ws) (laterSize ws) (q .1) n (omega arith)))
 
 pub sized : (ws : Words) → firstNo sizeQuestions ws ≡ 0 → Sized ws
 unfolding scale horizon lineCount lengthAllowed
