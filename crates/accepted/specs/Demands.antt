@@ -33,7 +33,8 @@ use Rattle.laws.specs.Policies.{FirstDifference, differ}
 use Rattle.laws.specs.Order.{Low, Before, lower-is, before-is, before-cost, strict, total}
 use Rattle.laws.specs.First.{costFrom0, firstPolicy, is-policy, first-cost, cheapest, comes-first}
 use Rattle.accepted.specs.Facts.{accepted}
-use Rattle.accepted.specs.Shape.{options-below, policy-is, shape, lists, togo-start, full, weights-bound, cost-bound}
+use Rattle.accepted.specs.Options.{Option, Alive, option-small}
+use Rattle.accepted.specs.Shape.{policy-is, shape, lists, togo-start, full, weights-bound, cost-bound}
 use Rattle.laws.specs.Entries.{in-at, some-at, map-at, take-one, count-most, count-none, by-rank}
 use Rattle.laws.specs.Walks.{policy-allowed, allowed-policy, reached-from, low-at}
 
@@ -55,7 +56,7 @@ bestPolicy ws = firstPolicy (scale ws) (stateCount ws) (action ws) (togo ws) (op
 -- "A plan has S bytes: for a reached post its choice (one of that post's, counted from 0), for any other 255."
 pub record PolicyBytes (ws : Words) (bs : Policy) : Type 0 where
   pub long : length bs ≡ stateCount ws
-  pub at-reached : (q : ℕ) → q < stateCount ws → In q (reached ws bs) → In (byteAt bs q) (options ws q)
+  pub at-reached : (q : ℕ) → q < stateCount ws → In q (reached ws bs) → Option ws q (byteAt bs q)
   pub at-other : (q : ℕ) → q < stateCount ws → (In q (reached ws bs) → ⊥) → byteAt bs q ≡ 255
 
 module _ (ws : Words) (ok : bookNumber ws ≡ 0) where
@@ -78,7 +79,7 @@ module _ (ws : Words) (ok : bookNumber ws ≡ 0) where
   pub best-policy : T (isPolicy ws (bestPolicy ws))
   best-policy =
       policy-is ws (bestPolicy ws) .1
-      (is-policy (scale ws) (stateCount ws) (action ws) (togo ws) (shape ws ok) (λ p. p < stateCount ws) (options ws) (lists ws ok))
+      (is-policy (scale ws) (stateCount ws) (action ws) (togo ws) (shape ws ok) (Alive ws) (options ws) (lists ws ok))
 
   -- "is k from 1 to K": there is at least one
   pub policies-some : 0 < length (policies ws)
@@ -147,7 +148,7 @@ module _ (ws : Words) (ok : bookNumber ws ≡ 0) where
       long : T (isPolicy ws bs) → length bs ≡ stateCount ws
       long t = policy-length (action ws) (options ws) (stateCount ws) 0 (0 ∷ []) bs (policy-is ws bs .0 t)
 
-      at-reached : T (isPolicy ws bs) → (q : ℕ) → q < stateCount ws → In q (reached ws bs) → In (byteAt bs q) (options ws q)
+      at-reached : T (isPolicy ws bs) → (q : ℕ) → q < stateCount ws → In q (reached ws bs) → Option ws q (byteAt bs q)
       at-reached t q l i = rw (T-true (isIn q (reached ws bs)) (in-isIn q (reached ws bs) i)) at (allowed-at t q l)
 
       at-other : T (isPolicy ws bs) → (q : ℕ) → q < stateCount ws → (In q (reached ws bs) → ⊥) → byteAt bs q ≡ 255
@@ -164,8 +165,8 @@ module _ (ws : Words) (ok : bookNumber ws ≡ 0) where
           go q l false e = rw e (inl (b .at-other q l (λ i. T-not (isIn q (reached ws bs)) (false-T e) (in-isIn q (reached ws bs) i))))
 
   -- no state has an action 255, so a byte says whether its state is reached
-  pub other-byte : (q : ℕ) → q < stateCount ws → In 255 (options ws q) → ⊥
-  other-byte q l i = omega (arith, options-below ws q i, accepted ws ok .counts-high q l)
+  pub other-byte : (q : ℕ) → q < stateCount ws → Option ws q 255 → ⊥
+  other-byte q l o = omega (arith, option-small ws ok q l o)
 
   -- "Two plans are the same if all bytes agree."
   pub same-bytes : (bs cs : Policy) → T (isPolicy ws bs) → T (isPolicy ws cs)
@@ -198,14 +199,14 @@ module _ (ws : Words) (ok : bookNumber ws ≡ 0) where
   unfolding leastCostToGo
   best-cost =
       cost-from (bestPolicy ws) best-policy
-      ∙ first-cost (scale ws) (stateCount ws) (action ws) (togo ws) (shape ws ok) (λ p. p < stateCount ws) (options ws) (lists ws ok)
+      ∙ first-cost (scale ws) (stateCount ws) (action ws) (togo ws) (shape ws ok) (Alive ws) (options ws) (lists ws ok)
       ∙ ap (λ (m : ℕ). leastToGo (scale ws) (action ws) (options ws) m 0) (togo-start ws ok)
 
   -- and no policy costs less
   pub least-all : (bs : Policy) → T (isPolicy ws bs) → leastCostToGo ws ≤ℤ policyCost ws bs
   least-all bs t =
       rw (← best-cost, cost-from (bestPolicy ws) best-policy, cost-from bs t)
-      (cheapest (scale ws) (stateCount ws) (action ws) (togo ws) (shape ws ok) (λ p. p < stateCount ws) (options ws) (lists ws ok) bs
+      (cheapest (scale ws) (stateCount ws) (action ws) (togo ws) (shape ws ok) (Alive ws) (options ws) (lists ws ok) bs
       (policy-is ws bs .0 t))
 
   -- ---- the order
@@ -386,7 +387,7 @@ module _ (ws : Words) (ok : bookNumber ws ≡ 0) where
       go : (b : Bool) → comesBefore ws bs G ≡ b → comesBefore ws bs G ≡ false
       go true e =
           absurd (clash (true-T e)
-          (comes-first (scale ws) (stateCount ws) (action ws) (togo ws) (shape ws ok) (λ p. p < stateCount ws) (options ws) (lists ws ok) bs
+          (comes-first (scale ws) (stateCount ws) (action ws) (togo ws) (shape ws ok) (Alive ws) (options ws) (lists ws ok) bs
           (policy-is ws bs .0 t) (cheap (true-T e))))
       go false e = e
 

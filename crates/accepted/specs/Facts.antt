@@ -1,38 +1,32 @@
 -- What the thirteen questions say of a book that passes them all: of its sizes, of each state p, and of each action c of state p.
 -- Assumes nothing.
-use mathlib.Core.Path.{_≡_, refl, sym, _∙_}
+use mathlib.Core.Path.{_≡_, sym, _∙_}
 use mathlib.Core.Bool.{Bool, true, false, cond}
-use Prim.Native.Nat.{ℕ, zero, suc, _+_, _*_, _^_, _≤_, _<_}
+use Prim.Native.Nat.{ℕ, _+_, _*_, _^_, _≤_, _<_}
 use native.Mathlib.Nat.{le-trans}
 use native.Mathlib.Omega.{arith}
-use borrow.Author.Tests.{leb-true, eqb-true, eq-eqb, ne-eqb}
+use borrow.Author.Tests.{leb-true, eq-eqb}
 use lib.Dec.{leb, eqb}
-use lib.IntN.{pos, natAbs}
+use lib.IntN.{natAbs}
 use Rattle.model.specs.Lists.{all, maxTo}
 use Rattle.model.specs.Model.{Words, word, scale, horizon, lineCount, stateCount, stage, actionCount, left, right}
 use Rattle.model.specs.Model.{branches, lineAfter, stateLine, actionLine}
-use Rattle.model.specs.Questions.{firstNo, andThen, inside, mostActions, countsAllowed, everyAction, branchesAllowed, linesAllowed, costAllowed}
+use Rattle.model.specs.Questions.{firstNo, mostLast, mostAt, branchesInside, countAllowed, countsAllowed, everyAction, branchesAllowed, linesAllowed}
 use Rattle.model.specs.Questions.{nextsAllowed, weightsAllowed, largestCost, costsBounded, sizeQuestions, actionQuestions, bookNumber}
 use Rattle.questions.specs.Ranges.{and-true, all-at, max-least, inside-range}
-use Rattle.questions.specs.FirstNo.{AllYes, passed, after}
+use Rattle.questions.specs.FirstNo.{AllYes, passed, after, then-zero}
 use Rattle.questions.specs.Sizes.{Sized, sized}
 
 pub record Accepted (ws : Words) : Type 0 where
   -- 1 to 7
   pub sizes : Sized ws
-  -- 8: "1 to 8 choices a post", "1 at stage H"
+  -- 8: "1 to 8 choices a post"
   pub counts-low : (p : ℕ) → p < stateCount ws → 1 ≤ actionCount ws p
   pub counts-high : (p : ℕ) → p < stateCount ws → actionCount ws p ≤ 8
-  pub counts-last : (p : ℕ) → p < stateCount ws → stage ws p ≡ horizon ws → actionCount ws p ≡ 1
-  -- 9: "is every r as allowed, do all their lines fit, and are exactly L lines used?"
+  -- 9: "is every r as allowed, do all their lines fit"
   pub branches-allowed : (p c : ℕ) → p < stateCount ws → c < actionCount ws p → branchesAllowed ws (stage ws p) (actionLine ws p c) ≡ true
-  pub branches-before : (p c : ℕ) → p < stateCount ws → c < actionCount ws p → stage ws p < horizon ws
-      → (1 ≤ branches ws (actionLine ws p c)) × (branches ws (actionLine ws p c) ≤ 16)
   pub branches-last : (p c : ℕ) → p < stateCount ws → c < actionCount ws p → stage ws p ≡ horizon ws → branches ws (actionLine ws p c) ≡ 0
   pub lines-fit : (p c : ℕ) → p < stateCount ws → c < actionCount ws p → lineAfter ws (actionLine ws p c) ≤ lineCount ws
-  pub lines-used : stateLine ws (stateCount ws) ≡ lineCount ws
-  -- 10: "Is every cost allowed?"
-  pub cost-allowed : (p c : ℕ) → p < stateCount ws → c < actionCount ws p → costAllowed ws (stage ws p) (actionLine ws p c) ≡ true
   -- 11: "Do the next posts of each choice rise strictly and lie within the next stage?"
   pub nexts-allowed : (p c : ℕ) → p < stateCount ws → c < actionCount ws p → nextsAllowed ws (stage ws p) (actionLine ws p c) ≡ true
   -- 12: "Is every weight from 1 to D, and does each choice's sum to exactly D (before stage H)?"
@@ -41,31 +35,20 @@ pub record Accepted (ws : Words) : Type 0 where
   pub cost-bounded : (p c : ℕ) → p < stateCount ws → c < actionCount ws p → natAbs (right ws (actionLine ws p c)) ≤ largestCost ws
   pub product-bounded : scale ws ^ horizon ws * (horizon ws + 1) * largestCost ws ≤ 4000000000000000000
 
--- two runs of questions are passed exactly if both are
-and-then : (m n : ℕ) → andThen m n ≡ 0 → (m ≡ 0) × (n ≡ 0)
-and-then zero n e = (refl, e)
-and-then (suc m) n e = absurd (omega arith)
-
 -- ---- 8
 
-most-bound : (ws : Words) (n : ℕ) → mostActions ws n ≤ 8
-unfolding mostActions
-most-bound ws n = go (eqb n (horizon ws))
+most-bound : (n h : ℕ) → mostAt n h ≤ 8
+most-bound n h = go (eqb n h)
   where
-    go : (b : Bool) → cond b 1 8 ≤ 8
+    go : (b : Bool) → cond b mostLast 8 ≤ 8
     go true = omega arith
     go false = omega arith
 
-most-last : (ws : Words) (n : ℕ) → n ≡ horizon ws → mostActions ws n ≡ 1
-unfolding mostActions
-most-last ws n e = rw (eq-eqb n (horizon ws) e)
-
 count-range : (ws : Words) → countsAllowed ws ≡ true → (p : ℕ) → p < stateCount ws
-    → (1 ≤ actionCount ws p) × (actionCount ws p ≤ mostActions ws (stage ws p))
-unfolding countsAllowed actionCount
+    → (1 ≤ actionCount ws p) × (actionCount ws p ≤ mostAt (stage ws p) (horizon ws))
+unfolding countsAllowed countAllowed actionCount
 count-range ws e p l =
-    inside-range 1 (mostActions ws (stage ws p)) (word ws (4 + horizon ws + p))
-    (all-at (stateCount ws) (λ (p : ℕ). inside (pos 1) (pos (mostActions ws (stage ws p))) (word ws (4 + horizon ws + p))) e p l)
+    inside-range 1 (mostAt (stage ws p) (horizon ws)) (word ws (4 + horizon ws + p)) (all-at (stateCount ws) (countAllowed ws) e p l)
 
 -- ---- 9 to 12
 
@@ -78,16 +61,9 @@ each-action test ws e p c l k =
     (all-at (stateCount ws) (λ (p : ℕ). all (actionCount ws p) (λ (c : ℕ). test ws (stage ws p) (actionLine ws p c))) e p l) c k
 
 module _ (ws : Words) (n j : ℕ) (e : branchesAllowed ws n j ≡ true) where
-  branches-tests : (cond (eqb n (horizon ws)) (inside (pos 0) (pos 0) (left ws j)) (inside (pos 1) (pos 16) (left ws j)) ≡ true)
-      × (leb (lineAfter ws j) (lineCount ws) ≡ true)
+  branches-tests : (branchesInside (left ws j) n (horizon ws) ≡ true) × (leb (lineAfter ws j) (lineCount ws) ≡ true)
   unfolding branchesAllowed
-  branches-tests =
-      and-true (cond (eqb n (horizon ws)) (inside (pos 0) (pos 0) (left ws j)) (inside (pos 1) (pos 16) (left ws j)))
-      (leb (lineAfter ws j) (lineCount ws)) e
-
-  some-branches : n < horizon ws → (1 ≤ branches ws j) × (branches ws j ≤ 16)
-  unfolding branches
-  some-branches l = inside-range 1 16 (left ws j) (rw (ne-eqb n (horizon ws) (λ q. omega arith)) at (branches-tests .0))
+  branches-tests = and-true (branchesInside (left ws j) n (horizon ws)) (leb (lineAfter ws j) (lineCount ws)) e
 
   no-branches : n ≡ horizon ws → branches ws j ≡ 0
   unfolding branches
@@ -96,11 +72,9 @@ module _ (ws : Words) (n j : ℕ) (e : branchesAllowed ws n j ≡ true) where
   fit : lineAfter ws j ≤ lineCount ws
   fit = leb-true (lineAfter ws j) (lineCount ws) (branches-tests .1)
 
-lines-say : (ws : Words) → linesAllowed ws ≡ true → (everyAction branchesAllowed ws ≡ true) × (stateLine ws (stateCount ws) ≡ lineCount ws)
+lines-say : (ws : Words) → linesAllowed ws ≡ true → everyAction branchesAllowed ws ≡ true
 unfolding linesAllowed
-lines-say ws e =
-    let p = and-true (everyAction branchesAllowed ws) (eqb (stateLine ws (stateCount ws)) (lineCount ws)) e in
-    (p .0, eqb-true (stateLine ws (stateCount ws)) (lineCount ws) (p .1))
+lines-say ws e = and-true (everyAction branchesAllowed ws) (eqb (stateLine ws (stateCount ws)) (lineCount ws)) e .0
 
 -- ---- 13
 
@@ -122,14 +96,10 @@ accepted ws ok =
     record {
       sizes = sized ws (both .0);
       counts-low = λ p l. count-range ws (y .0) p l .0;
-      counts-high = λ p l. le-trans (count-range ws (y .0) p l .1) (most-bound ws (stage ws p));
-      counts-last = λ p l e. omega (arith, count-range ws (y .0) p l, most-last ws (stage ws p) e);
+      counts-high = λ p l. le-trans (count-range ws (y .0) p l .1) (most-bound (stage ws p) (horizon ws));
       branches-allowed = nine;
-      branches-before = λ p c l k. some-branches ws (stage ws p) (actionLine ws p c) (nine p c l k);
       branches-last = λ p c l k. no-branches ws (stage ws p) (actionLine ws p c) (nine p c l k);
       lines-fit = λ p c l k. fit ws (stage ws p) (actionLine ws p c) (nine p c l k);
-      lines-used = lines-say ws (y .1 .0) .1;
-      cost-allowed = each-action costAllowed ws (y .1 .1 .0);
       nexts-allowed = each-action nextsAllowed ws (y .1 .1 .1 .0);
       weights-allowed = each-action weightsAllowed ws (y .1 .1 .1 .1 .0);
       cost-bounded = largest ws;
@@ -138,11 +108,11 @@ accepted ws ok =
   where
     both : (firstNo sizeQuestions ws ≡ 0) × (firstNo actionQuestions ws ≡ 0)
     both =
-        and-then (firstNo sizeQuestions ws) (firstNo actionQuestions ws)
+        then-zero (firstNo sizeQuestions ws) (firstNo actionQuestions ws)
         (sym (after ws sizeQuestions actionQuestions (omega arith)) ∙ ok)
 
     y : AllYes actionQuestions ws
     y = passed ws actionQuestions (omega arith) (both .1)
 
     nine : (p c : ℕ) → p < stateCount ws → c < actionCount ws p → branchesAllowed ws (stage ws p) (actionLine ws p c) ≡ true
-    nine = each-action branchesAllowed ws (lines-say ws (y .1 .0) .0)
+    nine = each-action branchesAllowed ws (lines-say ws (y .1 .0))

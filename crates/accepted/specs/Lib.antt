@@ -1,3 +1,5 @@
 pub mod Facts
+pub mod Options
 pub mod Shape
 pub mod Demands
+pub mod Bytes

@@ -18,7 +18,7 @@ use Rattle.model.specs.Model.{branches, actionLine, transitionAt, readAction, n
 use Rattle.model.specs.Questions.{inside, nextBefore, nextsAllowed, weightSum, weightsAllowed, largestCost, bookNumber}
 use Rattle.model.specs.Policy.{Policy, isPolicy}
 use Rattle.model.specs.Path.{byteAt, taken}
-use Rattle.laws.specs.Members.{In, Every, in-every, every-imp, every-both, in-map, Rising, upFrom-in, in-upFrom, upFrom-rising, AtNexts}
+use Rattle.laws.specs.Members.{In, Every, in-every, every-imp, every-both, in-map, upFrom-in, AtNexts}
 use Rattle.laws.specs.Paths.{weightsOf, Full}
 use Rattle.laws.specs.Best.{Obeys}
 use Rattle.laws.specs.Policies.{IsPolicy, fits-is}
@@ -26,6 +26,7 @@ use Rattle.laws.specs.First.{Shape, Lists, policy-obeys}
 use Rattle.questions.specs.Ranges.{and-true, all-at, sum-same, inside-range}
 use Rattle.questions.specs.Stages.{OfStage, stage-is, of-stage, first-mono, first-step, first-zero}
 use Rattle.accepted.specs.Facts.{Accepted, accepted}
+use Rattle.accepted.specs.Options.{Alive, options-rising, option-below, state-alive}
 
 -- a sum by its first term
 sum-front : (n : ℕ) (f : ℕ → ℕ) → sumTo (suc n) f ≡ f 0 + sumTo n (λ (i : ℕ). f (suc i))
@@ -33,19 +34,6 @@ sum-front zero f = omega arith
 sum-front (suc n) f = omega (arith, sum-front n f)
 
 module _ (ws : Words) where
-  -- the options of a state are its actions, lowest first
-  pub options-below : (p : ℕ) {c : ℕ} → In c (options ws p) → c < actionCount ws p
-  unfolding options
-  options-below p i = omega (arith, upFrom-in 0 (actionCount ws p) i)
-
-  pub below-options : (p c : ℕ) → c < actionCount ws p → In c (options ws p)
-  unfolding options
-  below-options p c l = in-upFrom 0 (actionCount ws p) c (omega arith) (omega arith)
-
-  options-rising : (p : ℕ) → Rising (options ws p)
-  unfolding options
-  options-rising p = upFrom-rising 0 (actionCount ws p)
-
   -- what the test of a policy decides
   pub policy-is : (bs : Policy) → T (isPolicy ws bs) ↔ IsPolicy (action ws) (options ws) (stateCount ws) 0 (0 ∷ []) bs
   unfolding isPolicy
@@ -227,12 +215,12 @@ module _ (ws : Words) (ok : bookNumber ws ≡ 0) where
     bare = no-action;
   }
 
-  pub lists : Lists (λ p. p < stateCount ws) (action ws) (options ws)
+  pub lists : Lists (Alive ws) (action ws) (options ws)
   lists = record {
     rising = options-rising ws;
-    first-alive = some-state;
-    some-action = λ p l. (0, below-options ws p 0 (facts .counts-low p l));
-    stays-alive = λ p c l i. shape .inside p c;
+    first-alive = state-alive ws ok 0 some-state;
+    some-action = λ p a. a .some;
+    stays-alive = λ p c a o. every-imp (λ t l. state-alive ws ok (t .next) l) (action ws p c .transitions) (shape .inside p c);
   }
 
   -- "does each choice's sum to exactly D (before stage H)?"
@@ -264,7 +252,7 @@ module _ (ws : Words) (ok : bookNumber ws ≡ 0) where
   unfolding taken togo
   full-from bs zero p l e o = tt
   full-from bs (suc m) p l e o = (
-    weights-full p (byteAt bs p) l (options-below ws p (o .0)) (omega arith),
+    weights-full p (byteAt bs p) l (option-below ws p (o .0)) (omega arith),
     every-both (λ t r n. full-from bs m (t .next) (n .1) (omega arith) r) (action ws p (byteAt bs p) .transitions) (o .1)
         (next-states p (byteAt bs p)),
   )

@@ -10,12 +10,12 @@ use lib.Signed.{ltZ}
 use lib.Dec.{eqb, leb}
 use Rattle.model.specs.Lists.{all, sumTo}
 use Rattle.model.specs.Model.{Words, word, scale, horizon, lineCount, left, right, branches, lineAfter, stageSize}
-use Rattle.model.specs.Questions.{inside, nextBefore, branchesAllowed, costAllowed, nextsAllowed, weightSum, weightsAllowed}
+use Rattle.model.specs.Questions.{inside, branchesInside, costInside, nextBefore, branchesAllowed, costAllowed, nextsAllowed, weightSum, weightsAllowed}
 use Rattle.questions.specs.Ranges.{and-true, and-right, all-same, sum-same}
 use Rattle.book.specs.Read.{SizesAre}
 use Rattle.book.specs.declared.Sizes.{Sizes}
 use Rattle.book.proofs.Columns.{left-is, right-is}
-use Rattle.actions.specs.Action.{prevAt, nextAllowed, WeighedAs, branchesInside, actionNumber}
+use Rattle.actions.specs.Action.{prevAt, nextAllowed, WeighedAs, actionNumber}
 use Rattle.actions.specs.declared.Weighed.{Weighed}
 
 pub prev-first : (ws : Words) (at i : ℕ) → i ≡ 0 → prevAt ws at i ≡ negsuc 0
@@ -27,16 +27,15 @@ prev-later ws at zero h = absurd (h refl)
 prev-later ws at (suc i) h = ap (λ (k : ℕ). word ws (at + k)) (omega arith)
 
 module _ (ws : Words) (z : Sizes) (are : SizesAre ws z) (i : ℕ) where
-  pub inside-is : (n : ℕ) → branchesInside (left ws i) n (horizon ws) ≡ branchesInside (word ws (4 + z .h + z .s + i)) n (z .h)
-  inside-is n = ap₂ (λ (x : ℤ) (h : ℕ). branchesInside x n h) (sym (left-is ws z are i (4 + z .h + z .s + i) refl)) (sym (are .h-is))
+  pub inside-is : (n : ℕ) → branchesInside (left ws i) n (horizon ws) ≡ branchesInside (word ws (z .columns + i)) n (z .h)
+  inside-is n = ap₂ (λ (x : ℤ) (h : ℕ). branchesInside x n h) (sym (left-is ws z are i (z .columns + i) refl)) (sym (are .h-is))
 
-  pub cost-is : (n : ℕ) → costAllowed ws n i ≡ inside (negsuc 99999) (pos 100000) (word ws (4 + z .h + z .s + i + z .l))
+  pub cost-is : (n : ℕ) → costAllowed ws n i ≡ costInside (word ws (z .columns + i + z .l))
   unfolding costAllowed
-  cost-is n =
-      ap (λ (x : ℤ). inside (negsuc 99999) (pos 100000) x) (sym (right-is ws z are i (4 + z .h + z .s + i + z .l) (omega arith)))
+  cost-is n = ap costInside (sym (right-is ws z are i (z .columns + i + z .l) (omega arith)))
 
 module _ (ws : Words) (z : Sizes) (are : SizesAre ws z) (n j : ℕ) where
-  pub nexts-are : (at r width : ℕ) → at ≡ 4 + z .h + z .s + j + 1 → r ≡ branches ws j → width ≡ stageSize ws (n + 1)
+  pub nexts-are : (at r width : ℕ) → at ≡ z .columns + j + 1 → r ≡ branches ws j → width ≡ stageSize ws (n + 1)
       → all r (nextAllowed ws at width) ≡ nextsAllowed ws n j
   unfolding nextsAllowed
   nexts-are at r width a b w = rw (b, w) (all-same (branches ws j) _ _ one)
@@ -52,7 +51,7 @@ module _ (ws : Words) (z : Sizes) (are : SizesAre ws z) (n j : ℕ) where
           ≡ (ltZ (nextBefore ws j i) (left ws (j + 1 + i)) && ltZ (left ws (j + 1 + i)) (pos (stageSize ws (n + 1))))
       one i h = ap₂ (λ (x y : ℤ). ltZ x y && ltZ y (pos (stageSize ws (n + 1)))) (prev i) (next i)
 
-  module _ (at r : ℕ) (a : at ≡ 4 + z .h + z .s + j + z .l + 1) (b : r ≡ branches ws j) where
+  module _ (at r : ℕ) (a : at ≡ z .columns + j + z .l + 1) (b : r ≡ branches ws j) where
     weight : (i : ℕ) → word ws (at + i) ≡ right ws (j + 1 + i)
     weight i = right-is ws z are (j + 1 + i) (at + i) (omega (arith, a))
 

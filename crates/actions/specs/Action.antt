@@ -1,11 +1,10 @@
 -- What the questions 9 to 12 ask of one action, by the words that are read.
 -- Assumes nothing.
 use mathlib.Core.Path.{_≡_}
-use mathlib.Core.Bool.{Bool, true, false, _&&_, cond}
+use mathlib.Core.Bool.{Bool, true, false, _&&_}
 use Prim.Native.Nat.{ℕ, zero, suc, _+_}
 use lib.IntN.{ℤ, pos, negsuc, natAbs}
 use lib.Signed.{ltZ}
-use lib.Dec.{eqb}
 use Rattle.model.specs.Lists.{all, sumTo}
 use Rattle.model.specs.Model.{Words, word}
 use Rattle.model.specs.Questions.{inside, branchesAllowed, costAllowed, nextsAllowed, weightsAllowed}
@@ -23,10 +22,6 @@ nextAllowed ws at width i = ltZ (prevAt ws at i) (word ws (at + i)) && ltZ (word
 pub record WeighedAs (ws : Words) (at r d : ℕ) (q : Weighed) : Type 0 where
   pub ok-is : q .ok ≡ all r (λ (i : ℕ). inside (pos 1) (pos d) (word ws (at + i)))
   pub sum-is : q .ok ≡ true → q .sum ≡ sumTo r (λ (i : ℕ). natAbs (word ws (at + i)))
-
--- the part of question 9 that r alone answers
-abbrev pub branchesInside : ℤ → ℕ → ℕ → Bool
-branchesInside z n h = cond (eqb n h) (inside (pos 0) (pos 0) z) (inside (pos 1) (pos 16) z)
 
 -- the number of the first "no" among the answers to 9, 10, 11 and 12
 abbrev pub code : Bool → Bool → Bool → Bool → ℕ

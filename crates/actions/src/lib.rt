@@ -5,10 +5,20 @@ ghost use Prim.Native.Nat.{_+_, _<_, _≤_};
 ghost use lib.ListN.{length};
 ghost use Rattle.model.specs.Lists.{all};
 ghost use Rattle.model.specs.Model.{word, horizon, lineCount, lineAfter};
-ghost use Rattle.model.specs.Questions.{nextsAllowed, weightsAllowed};
+ghost use Rattle.model.specs.Questions.{branchesInside, costInside, nextsAllowed, weightsAllowed};
 ghost use Rattle.questions.specs.Sizes.{Sized};
 ghost use Rattle.book.specs.Read.{SizesAre};
-ghost use Rattle.actions.specs.Action.{nextAllowed, WeighedAs, branchesInside, actionNumber};
+ghost use Rattle.actions.specs.Action.{nextAllowed, WeighedAs, actionNumber};
+
+// How many transitions an action of a state before stage H has.
+const FEWEST_BRANCHES: i32 = 1;
+
+const MOST_BRANCHES: i32 = 16;
+
+// What an action costs, in seconds.
+const LEAST_COST: i32 = -100000;
+
+const MOST_COST: i32 = 100000;
 
 // The sum of an action's weights, and whether each is from 1 to D.
 struct Weighed {
@@ -53,7 +63,7 @@ fn nexts_allowed(b: &[i32], z: Sizes, n: usize, j: usize) -> bool
     requires { ⌜ Sized (now b) × SizesAre (now b) z × (n ≤ horizon (now b)) × (lineAfter (now b) j ≤ lineCount (now b)) ⌝ }
     ensures { λ r. ⌜ r ≡ nextsAllowed (now (b .entry)) n j ⌝ }
 {
-    let at = 4 + z.h + z.s + j;
+    let at = z.columns + j;
     let r = book::size_at(b, at);
     let width = book::size_at(b, 4 + n);
     nexts_rise(b, at + 1, r, width)
@@ -81,7 +91,7 @@ fn weights_allowed(b: &[i32], z: Sizes, n: usize, j: usize) -> bool
     requires { ⌜ Sized (now b) × SizesAre (now b) z × (lineAfter (now b) j ≤ lineCount (now b)) ⌝ }
     ensures { λ r. ⌜ r ≡ weightsAllowed (now (b .entry)) n j ⌝ }
 {
-    let at = 4 + z.h + z.s + j;
+    let at = z.columns + j;
     let r = book::size_at(b, at);
     let w = weigh(b, at + z.l + 1, r, z.d);
     if !w.ok {
@@ -103,7 +113,15 @@ fn branches_allowed(b: &[i32], i: usize, n: usize, h: usize) -> bool
     if n == h {
         return book::word_in(b, i, 0, 0);
     }
-    book::word_in(b, i, 1, 16)
+    book::word_in(b, i, FEWEST_BRANCHES, MOST_BRANCHES)
+}
+
+// 10, of the cost at word i.
+fn cost_allowed(b: &[i32], i: usize) -> bool
+    requires { ⌜ i < length (now b) ⌝ }
+    ensures { λ r. ⌜ r ≡ costInside (word (now (b .entry)) i) ⌝ }
+{
+    book::word_in(b, i, LEAST_COST, MOST_COST)
 }
 
 // The number of the first of the questions 9 to 12 that the action of a state of stage n whose first line is line j fails, or 0.
@@ -115,14 +133,14 @@ pub fn action_number(b: &[i32], z: Sizes, n: usize, j: usize) -> u32
     if l <= j {
         return 9;
     }
-    let at = 4 + z.h + z.s + j;
+    let at = z.columns + j;
     if !branches_allowed(b, at, n, z.h) {
         return 9;
     }
     if l < j + 1 + book::size_at(b, at) {
         return 9;
     }
-    if !book::word_in(b, at + l, -100000, 100000) {
+    if !cost_allowed(b, at + l) {
         return 10;
     }
     if !nexts_allowed(b, z, n, j) {

@@ -9,17 +9,17 @@ use Rattle.book.specs.Read.{SizesAre}
 use Rattle.book.specs.declared.Sizes.{Sizes}
 
 module _ (ws : Words) (z : Sizes) (are : SizesAre ws z) (i : ℕ) where
-  pub left-is : (k : ℕ) → k ≡ 4 + z .h + z .s + i → word ws k ≡ left ws i
+  pub left-is : (k : ℕ) → k ≡ z .columns + i → word ws k ≡ left ws i
   unfolding left
-  left-is k e = ap (word ws) (omega (arith, e, are .h-is, are .s-is))
+  left-is k e = ap (word ws) (omega (arith, e, are .columns-is))
 
-  pub right-is : (k : ℕ) → k ≡ 4 + z .h + z .s + z .l + i → word ws k ≡ right ws i
+  pub right-is : (k : ℕ) → k ≡ z .columns + z .l + i → word ws k ≡ right ws i
   unfolding right
-  right-is k e = ap (word ws) (omega (arith, e, are .h-is, are .s-is, are .l-is))
+  right-is k e = ap (word ws) (omega (arith, e, are .columns-is, are .l-is))
 
-  pub branches-are : (r : ℕ) → r ≡ natAbs (word ws (4 + z .h + z .s + i)) → r ≡ branches ws i
+  pub branches-are : (r : ℕ) → r ≡ natAbs (word ws (z .columns + i)) → r ≡ branches ws i
   unfolding branches
-  branches-are r e = e ∙ ap natAbs (left-is (4 + z .h + z .s + i) refl)
+  branches-are r e = e ∙ ap natAbs (left-is (z .columns + i) refl)
 
   pub size-is : (n r : ℕ) → r ≡ natAbs (word ws (4 + n)) → r ≡ stageSize ws (n + 1)
   unfolding stageSize

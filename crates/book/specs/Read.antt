@@ -23,6 +23,7 @@ pub record SizesAre (ws : Words) (z : Sizes) : Type 0 where
   pub h-is : z .h ≡ horizon ws
   pub l-is : z .l ≡ lineCount ws
   pub s-is : z .s ≡ stateCount ws
+  pub columns-is : z .columns ≡ 4 + horizon ws + stateCount ws
 
 -- t is the stage of state p, or p is the first state after it
 pub record StageNear (ws : Words) (p : ℕ) (t : Stage) : Type 0 where

@@ -9,12 +9,13 @@ ghost use Rattle.model.specs.Questions.{inside};
 ghost use Rattle.questions.specs.Sizes.{Sized};
 ghost use Rattle.book.specs.Read.{SizeIs, Headed, SizesAre, StageFor, StageNear};
 
-// The sizes that a book begins with: D, H, L and S of document 01.
+// The sizes that a book begins with, D, H, L and S of document 01, and the word at which its left column begins.
 pub struct Sizes {
     pub d: usize,
     pub h: usize,
     pub l: usize,
     pub s: usize,
+    pub columns: usize,
 }
 
 // A stage, and the number of the first state after it.
@@ -96,7 +97,7 @@ pub fn word_to(b: &[i32], i: usize, n: usize) -> bool
 // S, the number of states.
 fn states(b: &[i32], h: usize) -> usize
     requires { ⌜ (h ≡ horizon (now b)) × (h ≤ 8) × (4 + h ≤ length (now b)) ⌝ }
-    ensures { λ r. ⌜ r ≡ stateCount (now (b .entry)) ⌝ }
+    ensures { λ r. ⌜ (r ≡ stateCount (now (b .entry))) × (r ≤ 19327352832) ⌝ }
 {
     let mut s: usize = 0;
     let mut n: usize = 0;
@@ -113,11 +114,13 @@ pub fn read_sizes(b: &[i32]) -> Sizes
     ensures { λ r. ⌜ SizesAre (now (b .entry)) r ⌝ }
 {
     let h = size_at(b, 1);
+    let s = states(b, h);
     Sizes {
         d: size_at(b, 0),
         h: h,
         l: size_at(b, 2),
-        s: states(b, h),
+        s: s,
+        columns: 4 + h + s,
     }
 }
 

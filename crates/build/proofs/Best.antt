@@ -11,14 +11,13 @@ use lib.ListN.{length, getD, set, length-set}
 use lib.Seq.{getD-set-same, getD-set-other}
 use Rattle.model.specs.Lists.{upFrom}
 use Rattle.model.specs.Model.{Words, scale, stateCount, togo, actionCount, action, options}
-use Rattle.model.specs.Questions.{bookNumber}
 use Rattle.model.specs.Recursion.{bestOf, through}
-use Rattle.laws.specs.Members.{in-every, upFrom-in}
-use Rattle.accepted.specs.Facts.{accepted}
-use Rattle.masks.specs.Masks.{free}
-use Rattle.masks.proofs.Bars.{free-all}
+use Rattle.laws.specs.Members.{in-every}
+use Rattle.laws.specs.Best.{best-in}
+use Rattle.accepted.specs.Options.{Option, Alive, options-are}
+use Rattle.sets.specs.Sets.{free, free-all}
 use Rattle.table.specs.Table.{rowOf, TableOf}
-use Rattle.table.proofs.Better.{best-same, best-below}
+use Rattle.table.proofs.Better.{best-same}
 use Rattle.build.specs.Best.{bestAt, RowsOf, BestTo}
 
 -- the table has the rows
@@ -30,18 +29,14 @@ module _ (ws : Words) (p : ℕ) where
   cost = through (scale ws) (action ws) (options ws) (togo ws p) p
 
   -- the choice by the row of a state is its first best action
-  pub row-best : (q : List ℤ) → RowsOf ws q → p < stateCount ws → bestOf (rowOf q p) (free 0 0 (actionCount ws p)) ≡ bestAt ws p
-  unfolding options
+  pub row-best : (q : List ℤ) → RowsOf ws q → p < stateCount ws → bestOf (rowOf q p) (free 0 (upFrom 0 (actionCount ws p))) ≡ bestAt ws p
   row-best q t h =
-      let n = actionCount ws p in
-      ap (bestOf (rowOf q p)) (free-all 0 n)
-      ∙ best-same (rowOf q p) cost (upFrom 0 n)
-      (in-every (λ c. rowOf q p c ≡ cost c) (upFrom 0 n) (λ c i. t .through-is p c h (omega (arith, upFrom-in 0 n i))))
+      ap (bestOf (rowOf q p)) (free-all (upFrom 0 (actionCount ws p)) ∙ sym (options-are ws p))
+      ∙ best-same (rowOf q p) cost (options ws p) (in-every (λ c. rowOf q p c ≡ cost c) (options ws p) (λ c o. t .through-is p c h o))
 
-  -- and is one of its actions
-  pub best-at-below : bookNumber ws ≡ 0 → p < stateCount ws → bestAt ws p < actionCount ws p
-  unfolding options
-  best-at-below ok h = best-below cost (actionCount ws p) (accepted ws ok .counts-low p h)
+  -- and is one of its options
+  pub best-option : Alive ws p → Option ws p (bestAt ws p)
+  best-option a = best-in cost (options ws p) (a .some .0) (a .some .1)
 
 pub best-none : (ws : Words) (xs : List ℕ) → length xs ≡ 64 → BestTo ws 0 xs
 best-none ws xs l = record { long = l; best-is = λ p h. absurd (omega arith) }

@@ -13,9 +13,8 @@ use Rattle.model.specs.Model.{Words, stateCount, action}
 use Rattle.model.specs.Questions.{bookNumber}
 use Rattle.model.specs.Policy.{Policy, nexts, onward}
 use Rattle.laws.specs.Greedy.{byteOf}
-use Rattle.accepted.specs.Facts.{accepted}
 use Rattle.accepted.specs.Shape.{shape}
-use Rattle.sets.specs.Sets.{holds, plus, both, SetOf, set-none, set-plus, set-both}
+use Rattle.sets.specs.Sets.{has, with, union, SetOf, set-none, set-with, set-union}
 use Rattle.build.specs.Walk.{walkBy, Stepped}
 
 -- ---- one state
@@ -25,23 +24,23 @@ module _ (ws : Words) (ok : bookNumber ws ≡ 0) (s reach : ℕ) where
   pub bare : (qs : List ℕ) → SetOf reach qs → SetOf reach (onward (action ws) s 255 qs)
   bare qs h = rw (shape ws ok .bare s) h
 
-  pub step-outside : (a : ℕ) → holds reach s ≡ false → Stepped (action ws) s a 255 reach reach
+  pub step-outside : (a : ℕ) → has reach s ≡ false → Stepped (action ws) s a 255 reach reach
   step-outside a e = record { byte-is = rw e; reached = bare }
 
-  module _ (a byte : ℕ) (in-it : holds reach s ≡ true) (is : byte ≡ a) where
+  module _ (a byte : ℕ) (in-it : has reach s ≡ true) (is : byte ≡ a) where
     pub step-none : byte ≡ 255 → Stepped (action ws) s a 255 reach reach
     step-none e = record { byte-is = rw in-it (sym e ∙ is); reached = bare }
 
-    pub step-on : (more : ℕ) → SetOf more (nexts (action ws s byte .transitions)) → Stepped (action ws) s a byte reach (both more reach)
+    pub step-on : (more : ℕ) → SetOf more (nexts (action ws s byte .transitions)) → Stepped (action ws) s a byte reach (union more reach)
     step-on more m = record {
       byte-is = rw in-it is;
-      reached = λ qs h. set-both more reach (nexts (action ws s byte .transitions)) qs m h;
+      reached = λ qs h. set-union more reach (nexts (action ws s byte .transitions)) qs m h;
     }
 
 -- state 0 alone
 pub first-set : SetOf 1 (0 ∷ [])
-unfolding plus
-first-set = set-plus 0 0 [] (omega arith) set-none
+unfolding with
+first-set = set-with 0 0 [] set-none
 
 -- ---- all states
 
@@ -73,7 +72,7 @@ module _ (ws : Words) (choose : ℕ → ℕ) where
     }
       where
         byte-is : byteOf (isIn s (h .reach)) (choose s) ≡ byte
-        byte-is = ap (λ (b : Bool). byteOf b (choose s)) (sym (h .set-is .at s (omega (arith, accepted ws ok .sizes .s-high)))) ∙ sym (t .byte-is)
+        byte-is = ap (λ (b : Bool). byteOf b (choose s)) (sym (h .set-is .at s)) ∙ sym (t .byte-is)
 
         n : stateCount ws - s ≡ suc (stateCount ws - (s + 1))
         n = omega arith

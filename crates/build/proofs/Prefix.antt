@@ -116,10 +116,6 @@ module _ (ws : Words) (bs : Policy) where
 
 -- ---- bytes that are copied
 
--- a byte that is there is read whatever stands for a missing one
-pub byte-there : (bs : Policy) (s : ℕ) → s < length bs → getD bs s 0 ≡ byteAt bs s
-byte-there bs s l = head-eq-of-cons-eq (sym (drop-cons bs s 0 l) ∙ drop-cons bs s 255 l)
-
 pub usable-long : (ws : Words) (bs : Policy) (r : ℕ) → Usable ws bs r → r ≤ length bs
 usable-long ws bs zero u = omega arith
 usable-long ws bs (suc r) u = u r (omega arith) .0

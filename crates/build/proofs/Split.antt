@@ -8,11 +8,12 @@ use native.Mathlib.Decide.{decLt, ℕ-discrete}
 use native.Mathlib.Omega.{arith}
 use borrow.Author.Tests.{lt-ltb, le-ltb, eq-eqb, ne-eqb}
 use lib.Dec.{eqb, ltb}
-use Rattle.model.specs.Model.{Words, stateCount, actionCount}
-use Rattle.model.specs.Questions.{bookNumber}
+use Rattle.model.specs.Model.{Words, scale, togo, action, options}
 use Rattle.model.specs.Policy.{Policy}
+use Rattle.model.specs.Recursion.{through}
+use Rattle.laws.specs.Best.{best-cases}
+use Rattle.accepted.specs.Options.{Option}
 use Rattle.build.specs.Walk.{splitBy, chosen, Usable}
-use Rattle.build.proofs.Best.{best-at-below}
 
 module _ (f : ℕ → ℕ) (r c : ℕ) (g : ℕ → ℕ) where
   pub split-before : (s : ℕ) → s < r → splitBy f r c g s ≡ f s
@@ -32,16 +33,14 @@ module _ (f : ℕ → ℕ) (r c : ℕ) (g : ℕ → ℕ) where
   unfolding splitBy
   split-same h s e = ap (λ (a : ℕ). cond (ltb s r) (f s) (cond (eqb s r) c a)) e
 
--- the action chosen at a state is 255 or one of its actions
-module _ (ws : Words) (ok : bookNumber ws ≡ 0) (bs : Policy) (r c : ℕ) (u : Usable ws bs r) (k : c < actionCount ws r) (s : ℕ)
-    (l : s < stateCount ws) where
-  abbrev ActionOrNone : ℕ → Type 0
-  ActionOrNone a = (a ≡ 255) ⊎ (a < actionCount ws s)
-
-  pub chosen-cases : ActionOrNone (chosen ws bs r c s)
-  chosen-cases = go (decLt s r) (ℕ-discrete s r)
-    where
-      go : Dec (s < r) → Dec (s ≡ r) → ActionOrNone (chosen ws bs r c s)
-      go (yes h) d = rw split-before (u s h .1)
-      go (no h) (yes e) = rw split-here (inr (subst (λ (p : ℕ). c < actionCount ws p) (sym e) k))
-      go (no h) (no d) = let after : r < s = omega arith in rw split-after (inr (best-at-below ws s ok l))
+-- the action chosen at a state is 255 or one of its options
+pub chosen-cases : (ws : Words) (bs : Policy) (r c : ℕ) → Usable ws bs r → Option ws r c → (s : ℕ)
+    → (chosen ws bs r c s ≡ 255) ⊎ Option ws s (chosen ws bs r c s)
+chosen-cases ws bs r c u o s = go (decLt s r) (ℕ-discrete s r)
+  where
+    go : Dec (s < r) → Dec (s ≡ r) → (chosen ws bs r c s ≡ 255) ⊎ Option ws s (chosen ws bs r c s)
+    go (yes h) d = rw split-before (u s h .1)
+    go (no h) (yes e) = rw split-here (inr (subst (λ (p : ℕ). Option ws p c) (sym e) o))
+    go (no h) (no d) =
+        let after : r < s = omega arith in
+        rw split-after (best-cases (through (scale ws) (action ws) (options ws) (togo ws s) s) (options ws s))

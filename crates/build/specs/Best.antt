@@ -5,18 +5,19 @@ use mathlib.Core.List.{List}
 use Prim.Native.Nat.{ℕ, _<_}
 use lib.IntN.{ℤ}
 use lib.ListN.{length, getD}
-use Rattle.model.specs.Model.{Words, scale, stateCount, togo, actionCount, action, options}
+use Rattle.model.specs.Model.{Words, scale, stateCount, togo, action, options}
 use Rattle.model.specs.Recursion.{bestOf, through}
+use Rattle.accepted.specs.Options.{Option}
 use Rattle.table.specs.Table.{rowOf}
 
 -- the first best action of state p
 abbrev pub bestAt : Words → ℕ → ℕ
 bestAt ws p = bestOf (through (scale ws) (action ws) (options ws) (togo ws p) p) (options ws p)
 
--- q has the costs of the actions of every state
+-- q has the costs of the options of every state
 pub record RowsOf (ws : Words) (q : List ℤ) : Type 0 where
   pub rows : length q ≡ 512
-  pub through-is : (p c : ℕ) → p < stateCount ws → c < actionCount ws p
+  pub through-is : (p c : ℕ) → p < stateCount ws → Option ws p c
       → rowOf q p c ≡ through (scale ws) (action ws) (options ws) (togo ws p) p c
 
 -- xs has the first best actions of the states below n

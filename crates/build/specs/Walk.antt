@@ -8,11 +8,12 @@ use Prim.Native.Nat.{ℕ, zero, suc, _-_, _<_}
 use lib.Dec.{eqb, ltb}
 use lib.ListN.{length, take, drop}
 use Rattle.model.specs.Lists.{isIn}
-use Rattle.model.specs.Model.{Words, Action, stateCount, actionCount, action}
+use Rattle.model.specs.Model.{Words, Action, stateCount, action}
 use Rattle.model.specs.Policy.{Policy, onward}
 use Rattle.model.specs.Path.{byteAt}
 use Rattle.laws.specs.Greedy.{byteOf}
-use Rattle.sets.specs.Sets.{holds, SetOf}
+use Rattle.accepted.specs.Options.{Option}
+use Rattle.sets.specs.Sets.{has, SetOf}
 use Rattle.build.specs.Best.{bestAt}
 
 module _ (act : ℕ → ℕ → Action) (choose : ℕ → ℕ) where
@@ -30,9 +31,9 @@ splitBy f r c g s = cond (ltb s r) (f s) (cond (eqb s r) c (g s))
 abbrev pub chosen : Words → Policy → ℕ → ℕ → ℕ → ℕ
 chosen ws bs r c = splitBy (byteAt bs) r c (bestAt ws)
 
--- the byte of state s is there, and is an action of the state or 255
+-- the byte of state s is there, and is an option of the state or 255
 abbrev pub ActionOrNone : Words → Policy → ℕ → Type 0
-ActionOrNone ws bs s = (s < length bs) × ((byteAt bs s ≡ 255) ⊎ (byteAt bs s < actionCount ws s))
+ActionOrNone ws bs s = (s < length bs) × ((byteAt bs s ≡ 255) ⊎ Option ws s (byteAt bs s))
 
 -- each byte before state r is
 abbrev pub Usable : Words → Policy → ℕ → Type 0
@@ -40,7 +41,7 @@ Usable ws bs r = (s : ℕ) → s < r → ActionOrNone ws bs s
 
 -- of state s, whose action is a: its byte, and the set of states known to be reached before and after its next states are among them
 pub record Stepped (act : ℕ → ℕ → Action) (s a byte before after : ℕ) : Type 0 where
-  pub byte-is : byte ≡ byteOf (holds before s) a
+  pub byte-is : byte ≡ byteOf (has before s) a
   pub reached : (qs : List ℕ) → SetOf before qs → SetOf after (onward act s byte qs)
 
 -- the set of the states that the first s bytes of bs reach: whoever acts by these bytes walks over the other states from there

@@ -4,9 +4,10 @@ ghost use mathlib.Core.Path.{_≡_};
 ghost use mathlib.Core.List.{[], _∷_, _++_};
 ghost use Prim.Native.Nat.{_+_, _<_, _≤_};
 ghost use lib.ListN.{length, getD, take, drop};
-ghost use Rattle.model.specs.Model.{stateCount, actionCount, action};
+ghost use Rattle.model.specs.Model.{stateCount, action};
 ghost use Rattle.model.specs.Questions.{bookNumber};
 ghost use Rattle.model.specs.Path.{byteAt};
+ghost use Rattle.accepted.specs.Options.{Option};
 ghost use Rattle.book.specs.Read.{SizesAre};
 ghost use Rattle.nexts.specs.Nexts.{NextsOf};
 ghost use Rattle.build.specs.Best.{RowsOf, BestOf};
@@ -66,10 +67,10 @@ fn step(
     s: usize,
     reach: u64,
 ) -> Stepping
-    requires { ⌜ (bookNumber (now b) ≡ 0) × NextsOf (now b) (now nx) × BestOf (now b) (now best) × Usable (now b) (now plan) r × (c < actionCount (now b) r) × (s < stateCount (now b)) ⌝ }
+    requires { ⌜ (bookNumber (now b) ≡ 0) × NextsOf (now b) (now nx) × BestOf (now b) (now best) × Usable (now b) (now plan) r × Option (now b) r c × (s < stateCount (now b)) ⌝ }
     ensures { λ a. ⌜ Stepped (action (now (b .entry))) s (chosen (now (b .entry)) (now (plan .entry)) r c s) (a .byte) reach (a .reach) ⌝ }
 {
-    if !sets::in_set(reach, s as u64) {
+    if !sets::has64(reach, s as u64) {
         return Stepping {
             byte: 255,
             reach: reach,
@@ -85,7 +86,7 @@ fn step(
     let more = nx[8 * s + a];
     Stepping {
         byte: a as u8,
-        reach: sets::join(more, reach),
+        reach: sets::union64(more, reach),
     }
 }
 
@@ -99,7 +100,7 @@ pub fn pass_state(b: &[i32], nx: &[u64; 512], plan: &[u8], s: usize, reach: u64)
         return reach;
     }
     let more = nx[8 * s + a];
-    sets::join(more, reach)
+    sets::union64(more, reach)
 }
 
 // The states that the bytes of `plan` before state r reach.
@@ -140,7 +141,7 @@ pub fn build(
     from: u64,
     out: &mut [u8],
 )
-    requires { ⌜ (bookNumber (now b) ≡ 0) × NextsOf (now b) (now nx) × BestOf (now b) (now best) × Usable (now b) (now plan) r × (r < stateCount (now b)) × (c < actionCount (now b) r) × Walked (now b) (now plan) r from × (length (now out) ≡ stateCount (now b)) ⌝ }
+    requires { ⌜ (bookNumber (now b) ≡ 0) × NextsOf (now b) (now nx) × BestOf (now b) (now best) × Usable (now b) (now plan) r × (r < stateCount (now b)) × Option (now b) r c × Walked (now b) (now plan) r from × (length (now out) ≡ stateCount (now b)) ⌝ }
     ensures { λ _. ⌜ now (out .exit) ≡ walkBy (action (now (b .entry))) (chosen (now (b .entry)) (now (plan .entry)) r c) (stateCount (now (b .entry))) 0 (0 ∷ []) ⌝ }
 {
     copy_before(plan, r, out);

@@ -45,7 +45,7 @@ fn advance(b: &[i32], z: Sizes, w: Walk, no: u32) -> Walk
     ensures { λ r. ⌜ Advanced (now (b .entry)) w no r ⌝ }
 {
     let j = w.at;
-    let at = 4 + z.h + z.s + j;
+    let at = z.columns + j;
     Walk {
         no: lower(w.no, no),
         at: j + 1 + book::size_at(b, at),

@@ -1,10 +1,10 @@
 -- What a child is, by the table, the reach weights and the walk.
 -- Assumes nothing.
 use mathlib.Core.Path.{_≡_, sym, ap, _∙_, subst}
-use mathlib.Core.Bool.{Bool, true, false, cond}
+use mathlib.Core.Bool.{Bool, cond}
 use mathlib.Core.Logic.{inl}
 use mathlib.Core.List.{List, [], _∷_}
-use Prim.Native.Nat.{ℕ, zero, suc, _+_, _≤_, _<_}
+use Prim.Native.Nat.{ℕ, _≤_, _<_}
 use native.Mathlib.Omega.{arith}
 use borrow.Author.Tests.{eq-eqb, ne-eqb}
 use lib.Dec.{lit<}
@@ -15,24 +15,23 @@ use lib.ListN.{length, getD, take}
 use Rattle.model.specs.Lists.{insert}
 use Rattle.model.specs.Questions.{bookNumber}
 use Rattle.build.specs.Best.{RowsOf}
-use Rattle.model.specs.Model.{Words, scale, stateCount, togo, actionCount, action, options}
+use Rattle.model.specs.Model.{Words, scale, stateCount, togo, action, options}
 use Rattle.model.specs.Policy.{Policy}
 use Rattle.model.specs.Path.{byteAt, taken}
 use Rattle.model.specs.Recursion.{bestOf, through}
-use Rattle.laws.specs.Members.{Every, every-in}
+use Rattle.accepted.specs.Options.{Option, option-small}
 use Rattle.accepted.specs.Facts.{accepted}
 use Rattle.accepted.specs.Shape.{togo-start}
 use Rattle.accepted.specs.Demands.{to-go-fits}
 use Rattle.book.proofs.Words.{fits64}
 use Rattle.table.specs.Table.{rowOf}
-use Rattle.masks.specs.Masks.{has, free}
 use Rattle.build.specs.Walk.{walkBy, chosen, Own, ActionOrNone}
 use Rattle.build.proofs.Walk.{walk-greedy}
 use Rattle.reach.specs.Weights.{WeightsOf}
-use Rattle.value.proofs.Bytes.{byte-is, policy-long, byte-cases}
+use Rattle.accepted.specs.Bytes.{byte-is, policy-long, byte-cases}
 use Rattle.splits.specs.Parts.{Reaches}
 use Rattle.stored.specs.Entry.{Entry, earlierEntry}
-use Rattle.stored.specs.Lists.{left, listsOf}
+use Rattle.stored.specs.Lists.{left, left-option, listsOf}
 use Rattle.stored.specs.Children.{Right, maskAt, childEntry, plan-model, child-right}
 use Rattle.stored.specs.Costs.{cost-moves}
 use Rattle.child.specs.Move.{Movable}
@@ -42,22 +41,13 @@ use Rattle.child.proofs.Splits.{reaches-here}
 use Rattle.child.specs.Children.{ChildAt, childOf, joined, joinedIf, admitted, ChildIs}
 use Rattle.child.specs.declared.Child.{Child}
 
--- the actions that a set leaves are actions
-pub free-under : (n mask i m : ℕ) → i + m ≤ n → Every (λ c. c < n) (free mask i m)
-free-under n mask i zero h = tt
-free-under n mask i (suc m) h = go (has mask i) (free-under n mask (suc i) m (omega arith))
-  where
-    go : (b : Bool) → Every (λ c. c < n) (free mask (suc i) m) → Every (λ c. c < n) (cond b (free mask (suc i) m) (i ∷ free mask (suc i) m))
-    go true r = r
-    go false r = (omega arith, r)
-
 -- what the code needs of the child with action c at state p, whose parent's byte there is f
 pub record Facts (ws : Words) (q : List ℤ) (e : Entry) (w : List ℕ) (p c f : ℕ) : Type 0 where
   pub in-plan : p < length (e .plan)
   pub p-small : p < 64
   pub c-small : c < 8
   pub own-small : f < 8
-  pub c-action : c < actionCount ws p
+  pub c-option : Option ws p c
   pub cost-fits : SFits w64 (e .cost)
   pub movable : Movable (e .cost) (getD w p 0) (rowOf q p c) (rowOf q p f)
   pub plan-is : walkBy (action ws) (chosen ws (e .plan) p c) (stateCount ws) 0 (0 ∷ []) ≡ childEntry ws e p .plan
@@ -67,7 +57,7 @@ pub record Facts (ws : Words) (q : List ℤ) (e : Entry) (w : List ℕ) (p c f :
 
 module _ (ws : Words) (ok : bookNumber ws ≡ 0) (q : List ℤ) (rows : RowsOf ws q) (e : Entry) (ri : Right ws e) where
   pub in-plan : (p : ℕ) → p < stateCount ws → p < length (e .plan)
-  in-plan p h = omega (arith, policy-long ws ok (e .plan) (plan-model ws ok e ri) p h)
+  in-plan p h = omega (arith, policy-long ws ok (e .plan) (plan-model ws ok e ri))
 
   pub fits : (d : Entry) → Right ws d → SFits w64 (d .cost)
   unfolding taken
@@ -84,41 +74,40 @@ module _ (ws : Words) (ok : bookNumber ws ≡ 0) (q : List ℤ) (rows : RowsOf w
     p-small = omega (arith, ch .state, accepted ws ok .sizes .s-high)
 
     own-small : byteAt (e .plan) p < 8
-    own-small = omega (arith, ch .own, accepted ws ok .counts-high p (ch .state))
+    own-small = option-small ws ok p (ch .state) (ch .own)
 
-    c-action : c < actionCount ws p
-    c-action = every-in (λ d. d < actionCount ws p) (left ws p (maskAt e p))
-        (free-under (actionCount ws p) (maskAt e p) 0 (actionCount ws p) (omega arith)) c (ch .some)
+    c-option : Option ws p c
+    c-option = left-option ws p (maskAt e p) c (ch .some)
 
     c-small : c < 8
-    c-small = omega (arith, c-action, accepted ws ok .counts-high p (ch .state))
+    c-small = option-small ws ok p (ch .state) c-option
 
     here : Reaches (action ws) p 0 (0 ∷ []) (e .plan)
     here = reaches-here ws ok e ri p (ch .state) (ch .from) (λ b. omega (arith, b, own-small))
 
-    row-is : (d : ℕ) → d < actionCount ws p → rowOf q p d ≡ row d
+    row-is : (d : ℕ) → Option ws p d → rowOf q p d ≡ row d
     row-is d h = rows .through-is p d (ch .state) h
 
     moves : Movable (e .cost) (getD w p 0) (rowOf q p c) (rowOf q p (byteAt (e .plan) p))
     moves =
-        rw (wo .at p (ch .state), row-is c c-action, row-is (byteAt (e .plan) p) (ch .own), ch .next)
-        (movable ws ok e ri p (ch .state) (ch .from) own-small here (c, ch .some))
+        rw (wo .at p (ch .state), row-is c c-option, row-is (byteAt (e .plan) p) (ch .own), ch .next)
+        (movable ws ok e ri p (ch .state) (ch .from) here (c, ch .some))
 
     plan-is : walkBy (action ws) (chosen ws (e .plan) p c) (stateCount ws) 0 (0 ∷ []) ≡ childEntry ws e p .plan
     plan-is =
         ap (λ (d : ℕ). walkBy (action ws) (chosen ws (e .plan) p d) (stateCount ws) 0 (0 ∷ [])) (ch .next)
-        ∙ child-plan ws ok e ri p (ch .state) (ch .from) own-small
+        ∙ child-plan ws ok e ri p (ch .from)
 
     cost-is : e .cost +ℤ pos (getD w p 0) *ℤ (rowOf q p c -ℤ rowOf q p (byteAt (e .plan) p)) ≡ childEntry ws e p .cost
     cost-is =
-        rw (wo .at p (ch .state), row-is c c-action, row-is (byteAt (e .plan) p) (ch .own), ch .next)
-        (sym (cost-moves ws ok e ri p (ch .state) (ch .from) own-small here (c, ch .some)))
+        rw (wo .at p (ch .state), row-is c c-option, row-is (byteAt (e .plan) p) (ch .own), ch .next)
+        (sym (cost-moves ws ok e ri p (ch .from) here (c, ch .some)))
 
     child-right′ : Right ws (childEntry ws e p)
-    child-right′ = child-right ws ok e ri p (ch .state) (ch .from) own-small here (c, ch .some)
+    child-right′ = child-right ws ok e ri p (ch .from) here (c, ch .some)
 
     child-long : length (childEntry ws e p .plan) ≡ stateCount ws
-    child-long = policy-long ws ok (childEntry ws e p .plan) (plan-model ws ok (childEntry ws e p) child-right′) p (ch .state)
+    child-long = policy-long ws ok (childEntry ws e p .plan) (plan-model ws ok (childEntry ws e p) child-right′)
 
     pub facts : Facts ws q e w p c (getD (e .plan) p 0)
     facts =
@@ -128,7 +117,7 @@ module _ (ws : Words) (ok : bookNumber ws ≡ 0) (q : List ℤ) (rows : RowsOf w
           p-small = p-small;
           c-small = c-small;
           own-small = own-small;
-          c-action = c-action;
+          c-option = c-option;
           cost-fits = fits e ri;
           movable = moves;
           plan-is = plan-is;
@@ -154,7 +143,7 @@ module _ (ws : Words) (ok : bookNumber ws ≡ 0) (e : Entry) (ri : Right ws e) w
 
   pub action-or-none : (p : ℕ) → p < stateCount ws → ActionOrNone ws (e .plan) p
   action-or-none p h =
-      (omega (arith, policy-long ws ok (e .plan) (plan-model ws ok e ri) p h), byte-cases ws ok (e .plan) (plan-model ws ok e ri) p h)
+      (omega (arith, policy-long ws ok (e .plan) (plan-model ws ok e ri)), byte-cases ws ok (e .plan) (plan-model ws ok e ri) p h)
 
 -- ---- a child, or none
 
@@ -167,4 +156,4 @@ module _ (k : ℕ) (ws : Words) (bs : Policy) (p : ℕ) (d : Child) (es : List E
 
 pub none-is : (ws : Words) (e : Entry) (p : ℕ) (d : Child) → d .action ≡ 255 → ((k : ℕ) (es : List Entry) → es ≡ admitted ws k e p es) → ChildIs ws
     e p d
-none-is ws e p d h n = record { joins = λ k es. if-none k ws (e .plan) p d es h ∙ n k es; below = inl h }
+none-is ws e p d h n = record { joins = λ k es. if-none k ws (e .plan) p d es h ∙ n k es; option = inl h }

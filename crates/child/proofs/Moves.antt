@@ -54,7 +54,7 @@ module _ (cost : ℤ) (w : ℕ) (new old : ℤ) (m : Movable cost w new old) whe
 -- ---- of a candidate
 
 module _ (ws : Words) (ok : bookNumber ws ≡ 0) (e : Entry) (ri : Right ws e) (p : ℕ) (state : p < stateCount ws) (from : e .split ≤ p)
-    (small : byteAt (e .plan) p < 8) (reached : Reaches (action ws) p 0 (0 ∷ []) (e .plan)) (some : (c : ℕ) × In c (left ws p (maskAt e p))) where
+    (reached : Reaches (action ws) p 0 (0 ∷ []) (e .plan)) (some : (c : ℕ) × In c (left ws p (maskAt e p))) where
   abbrev W : ℕ
   W = reachWeight (action ws) (e .plan) p
 
@@ -86,15 +86,15 @@ module _ (ws : Words) (ok : bookNumber ws ≡ 0) (e : Entry) (ri : Right ws e) (
       = mul-le-mul {n₁ = W * D ^ m} {m₁ = (m + 1) * C} {n₂ = D ^ horizon ws} {m₂ = (horizon ws + 1) * C} reach (mul-le-mul-right C (omega (arith, few))) in
       omega (arith, a, b, accepted ws ok .product-bounded)
 
-  pub movable : Movable (e .cost) W (row (nextAt ws ok e ri p state from small)) (row (byteAt (e .plan) p))
+  pub movable : Movable (e .cost) W (row (nextAt ws ok e ri p from)) (row (byteAt (e .plan) p))
   unfolding taken
   movable =
       record {
         weight = omega (arith, reach, mul-le-mul-left W (power-low D (togo ws p) (accepted ws ok .sizes .d-low)), power-high D (horizon ws) (accepted ws ok .sizes .d-high) (accepted ws ok .sizes .h-high));
-        new-size = through-fits ws ok (togo ws p) p (nextAt ws ok e ri p state from small) few;
+        new-size = through-fits ws ok (togo ws p) p (nextAt ws ok e ri p from) few;
         old-size = through-fits ws ok (togo ws p) p (byteAt (e .plan) p) few;
-        new-part = part (nextAt ws ok e ri p state from small);
+        new-part = part (nextAt ws ok e ri p from);
         old-part = part (byteAt (e .plan) p);
-        result = subst (λ (z : ℤ). natAbs z ≤ 4000000000000000000) (cost-moves ws ok e ri p state from small reached some)
+        result = subst (λ (z : ℤ). natAbs z ≤ 4000000000000000000) (cost-moves ws ok e ri p from reached some)
             (to-go-fits ws ok (childEntry ws e p .plan) (togo ws 0) 0 (omega (arith, togo-start ws ok)));
       }

@@ -10,28 +10,26 @@ use borrow.Author.Tests.{le-leb, ne-eqb, eq-eqb}
 use lib.Dec.{T, T-not, leb}
 use lib.IntN.{ℤ}
 use Rattle.model.specs.Lists.{isIn}
-use Rattle.model.specs.Model.{Words, stateCount, actionCount, action}
+use Rattle.model.specs.Model.{Words, stateCount, action}
 use Rattle.model.specs.Questions.{bookNumber}
 use Rattle.model.specs.Policy.{Policy}
 use Rattle.model.specs.Path.{byteAt}
 use Rattle.model.specs.Recursion.{bestOf}
 use Rattle.questions.specs.Ranges.{and-right}
-use Rattle.laws.specs.Members.{In, Every, every-in, isIn-in, in-isIn, true-T, false-T}
-use Rattle.laws.specs.Best.{best-in}
-use Rattle.accepted.specs.Facts.{accepted}
+use Rattle.laws.specs.Members.{In, Every, every-in, in-every, isIn-in, in-isIn, true-T, false-T}
+use Rattle.laws.specs.Best.{best-in, best-cases}
+use Rattle.accepted.specs.Options.{Option, option-small}
 use Rattle.accepted.specs.Shape.{shape}
 use Rattle.accepted.specs.Demands.{reached, policy-bytes}
-use Rattle.masks.proofs.Free.{free-below}
 use Rattle.splits.specs.Parts.{Reaches, reaches-is}
 use Rattle.stored.specs.Entry.{Entry}
-use Rattle.stored.specs.Lists.{left}
+use Rattle.stored.specs.Lists.{left, left-option}
 use Rattle.stored.specs.Children.{Right, maskAt, childEntry, addIf, splitsAt, plan-model}
-use Rattle.value.proofs.Bytes.{byte-cases, policy-long}
+use Rattle.accepted.specs.Bytes.{byte-cases, policy-long}
 
 -- a first best action tells whether a list has one
 best-some : (f : ℕ → ℤ) (xs : List ℕ) → (bestOf f xs ≡ 255 → ⊥) → In (bestOf f xs) xs
-best-some f [] h = absurd (h refl)
-best-some f (x ∷ xs) h = best-in f (x ∷ xs) x (inl refl)
+best-some f xs h = ⊎-elim (λ e. absurd (h e)) (λ i. i) (best-cases f xs)
 
 best-none : (f : ℕ → ℤ) (xs : List ℕ) → Every (λ c. c < 8) xs → bestOf f xs ≡ 255 → xs ≡ []
 best-none f [] h e = refl
@@ -46,9 +44,6 @@ add-none true k = refl
 add-none false k = refl
 
 module _ (ws : Words) (ok : bookNumber ws ≡ 0) (e : Entry) (ri : Right ws e) (p : ℕ) (state : p < stateCount ws) (from : e .split ≤ p) where
-  abbrev here : List Entry
-  here = addIf (splitsAt e p) (left ws p (maskAt e p)) (childEntry ws e p) []
-
   -- a state that is not reached has byte 255, and no child
   pub none-unreached : byteAt (e .plan) p ≡ 255 → addIf (splitsAt e p) (left ws p (maskAt e p)) (childEntry ws e p) [] ≡ []
   none-unreached b =
@@ -59,16 +54,21 @@ module _ (ws : Words) (ok : bookNumber ws ≡ 0) (e : Entry) (ri : Right ws e) (
       → addIf (splitsAt e p) (left ws p (maskAt e p)) (childEntry ws e p) [] ≡ []
   none-left f b =
       ap (λ (xs : List ℕ). addIf (splitsAt e p) xs (childEntry ws e p) [])
-      (best-none f (left ws p (maskAt e p)) (free-below (maskAt e p) 0 (actionCount ws p) (omega (arith, accepted ws ok .counts-high p state))) b)
+      (best-none f (left ws p (maskAt e p)) small b)
       ∙ add-none (splitsAt e p) (childEntry ws e p)
+    where
+      small : Every (λ c. c < 8) (left ws p (maskAt e p))
+      small =
+          in-every (λ c. c < 8) (left ws p (maskAt e p))
+          (λ c i. option-small ws ok p state (left-option ws p (maskAt e p) c i))
 
-  -- any other byte is an action of a reached state
+  -- any other byte is an option of a reached state
   module _ (other : byteAt (e .plan) p ≡ 255 → ⊥) where
-    pub own-action : byteAt (e .plan) p < actionCount ws p
-    own-action = ⊎-elim (λ b. absurd (other b)) (λ l. l) (byte-cases ws ok (e .plan) (plan-model ws ok e ri) p state)
+    pub own-option : Option ws p (byteAt (e .plan) p)
+    own-option = ⊎-elim (λ b. absurd (other b)) (λ o. o) (byte-cases ws ok (e .plan) (plan-model ws ok e ri) p state)
 
     pub own-small : byteAt (e .plan) p < 8
-    own-small = omega (arith, own-action, accepted ws ok .counts-high p state)
+    own-small = option-small ws ok p state own-option
 
     pub reaches-here : Reaches (action ws) p 0 (0 ∷ []) (e .plan)
     reaches-here = go (isIn p (reached ws (e .plan))) refl
@@ -81,7 +81,7 @@ module _ (ws : Words) (ok : bookNumber ws ≡ 0) (e : Entry) (ri : Right ws e) (
             reaches-is (action ws) (shape ws ok .later) p 0 (0 ∷ []) (e .plan) .1 (
               isIn-in p (reached ws (e .plan)) (true-T q),
               omega arith,
-              omega (arith, policy-long ws ok (e .plan) (plan-model ws ok e ri) p state),
+              omega (arith, policy-long ws ok (e .plan) (plan-model ws ok e ri)),
             )
         go false q =
             absurd (other (policy-bytes ws ok (e .plan) .0 is .at-other p state

@@ -8,25 +8,27 @@ use native.Mathlib.Omega.{arith}
 use lib.Dec.{eqb}
 use lib.IntN.{ℤ}
 use lib.ListN.{getD}
+use Rattle.model.specs.Lists.{upFrom}
 use Rattle.model.specs.Questions.{bookNumber}
 use Rattle.build.specs.Best.{RowsOf}
 use Rattle.model.specs.Model.{Words, scale, stateCount, togo, actionCount, action, options}
 use Rattle.model.specs.Path.{byteAt}
 use Rattle.model.specs.Recursion.{bestOf, through}
-use Rattle.laws.specs.Members.{every-imp}
+use Rattle.laws.specs.Members.{in-every}
+use Rattle.accepted.specs.Options.{options-are}
 use Rattle.accepted.specs.Facts.{accepted}
 use Rattle.table.specs.Table.{rowOf}
 use Rattle.table.proofs.Better.{best-same}
-use Rattle.masks.specs.Masks.{with, free}
-use Rattle.value.proofs.Bytes.{byte-is}
+use Rattle.sets.specs.Sets.{with, free}
+use Rattle.accepted.specs.Bytes.{byte-is}
 use Rattle.splits.specs.Search.{admit}
 use Rattle.stored.specs.Entry.{Entry, earlierEntry}
-use Rattle.stored.specs.Lists.{left}
+use Rattle.stored.specs.Lists.{left, left-option}
 use Rattle.stored.specs.Children.{Right, maskAt, childEntry}
 use Rattle.stored.specs.Runs.{itself}
-use Rattle.child.proofs.Splits.{none-unreached, none-left, own-action, own-small, one-child}
+use Rattle.child.proofs.Splits.{none-unreached, none-left, own-option, own-small, one-child}
 use Rattle.child.specs.Children.{ChildAt, joined, admitted}
-use Rattle.child.proofs.Children.{free-under, in-plan}
+use Rattle.child.proofs.Children.{in-plan}
 
 module _ (ws : Words) (ok : bookNumber ws ≡ 0) (q : List ℤ) (rows : RowsOf ws q) (e : Entry) (ri : Right ws e) (p : ℕ)
     (from : e .split ≤ p) (state : p < stateCount ws) (k : ℕ) (es : List Entry) where
@@ -53,7 +55,7 @@ module _ (ws : Words) (ok : bookNumber ws ≡ 0) (q : List ℤ) (rows : RowsOf w
     small = omega (arith, byte, own-small ws ok e ri p state from other′)
 
     module _ (m n r : ℕ) (mask-is : m ≡ with (cond (eqb p (e .split)) (e .mask) 0) f) (n-is : n ≡ actionCount ws p)
-        (r-is : r ≡ bestOf (rowOf q p) (free m 0 n)) where
+        (r-is : r ≡ bestOf (rowOf q p) (free m (upFrom 0 n))) where
       abbrev cost : ℕ → ℤ
       cost = through (scale ws) (action ws) (options ws) (togo ws p) p
 
@@ -62,10 +64,11 @@ module _ (ws : Words) (ok : bookNumber ws ≡ 0) (q : List ℤ) (rows : RowsOf w
 
       next : r ≡ bestOf cost (left ws p (maskAt e p))
       next =
-          r-is ∙ ap (λ (n : ℕ). bestOf (rowOf q p) (free m 0 n)) n-is ∙ ap (λ (m : ℕ). bestOf (rowOf q p) (free m 0 (actionCount ws p))) mask-at
+          r-is ∙ ap (λ (n : ℕ). bestOf (rowOf q p) (free m (upFrom 0 n))) n-is
+          ∙ (λ t. bestOf (rowOf q p) (free (mask-at t) (sym (options-are ws p) t)))
           ∙ best-same (rowOf q p) cost (left ws p (maskAt e p))
-          (every-imp (λ c h. rows .through-is p c state h) (left ws p (maskAt e p))
-          (free-under (actionCount ws p) (maskAt e p) 0 (actionCount ws p) (omega arith)))
+          (in-every (λ c. rowOf q p c ≡ cost c) (left ws p (maskAt e p))
+          (λ c i. rows .through-is p c state (left-option ws p (maskAt e p) c i)))
 
       pub none : r ≡ 255 → es ≡ admitted ws k e p es
       none h = sym (ap (λ (cs : List Entry). admit earlierEntry itself k cs es) (none-left ws ok e ri p state from cost (sym next ∙ h)))
@@ -76,7 +79,7 @@ module _ (ws : Words) (ok : bookNumber ws ≡ 0) (q : List ℤ) (rows : RowsOf w
             record {
               state = state;
               from = from;
-              own = own-action ws ok e ri p state from other′;
+              own = own-option ws ok e ri p state from other′;
               mask-is = mask-at;
               next = next;
               some = one-child ws ok e ri p state from other′ cost r next some .0;

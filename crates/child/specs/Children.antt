@@ -8,11 +8,12 @@ use Prim.Native.Nat.{ℕ, _≤_, _<_}
 use lib.Dec.{eqb}
 use lib.ListN.{take}
 use Rattle.model.specs.Lists.{insert}
-use Rattle.model.specs.Model.{Words, scale, stateCount, togo, actionCount, action, options}
+use Rattle.model.specs.Model.{Words, scale, stateCount, togo, action, options}
 use Rattle.model.specs.Policy.{Policy}
 use Rattle.model.specs.Path.{byteAt}
 use Rattle.model.specs.Recursion.{bestOf, through}
 use Rattle.laws.specs.Members.{In}
+use Rattle.accepted.specs.Options.{Option}
 use Rattle.build.specs.Walk.{walkBy, chosen}
 use Rattle.reach.specs.Weights.{WeightsOf}
 use Rattle.splits.specs.Search.{admit}
@@ -35,7 +36,7 @@ pub record Parenting (ws : Words) (e : Parent) (bs : Policy) (w : List ℕ) : Ty
 pub record ChildAt (ws : Words) (e : Entry) (p c mask : ℕ) : Type 0 where
   pub state : p < stateCount ws
   pub from : e .split ≤ p
-  pub own : byteAt (e .plan) p < actionCount ws p
+  pub own : Option ws p (byteAt (e .plan) p)
   pub mask-is : mask ≡ maskAt e p
   pub next : c ≡ bestOf (through (scale ws) (action ws) (options ws) (togo ws p) p) (left ws p (maskAt e p))
   pub some : In c (left ws p (maskAt e p))
@@ -60,4 +61,4 @@ joinedIf k ws bs p d es = cond (eqb (d .action) 255) es (joined k (childOf ws bs
 -- d is the child of e at state p, or none where there is none
 pub record ChildIs (ws : Words) (e : Entry) (p : ℕ) (d : Child) : Type 0 where
   pub joins : (k : ℕ) (es : List Entry) → joinedIf k ws (e .plan) p d es ≡ admitted ws k e p es
-  pub below : (d .action ≡ 255) ⊎ (d .action < actionCount ws p)
+  pub option : (d .action ≡ 255) ⊎ Option ws p (d .action)

@@ -10,7 +10,7 @@ ghost use lib.ListN.{getD};
 ghost use Rattle.model.specs.Model.{stateCount};
 ghost use Rattle.model.specs.Questions.{bookNumber};
 ghost use Rattle.book.specs.Read.{SizesAre};
-ghost use Rattle.masks.specs.Masks.{with};
+ghost use Rattle.sets.specs.Sets.{with};
 ghost use Rattle.table.specs.Table.{rowOf};
 ghost use Rattle.build.specs.Best.{RowsOf};
 ghost use Rattle.child.specs.Move.{Movable};
@@ -51,9 +51,9 @@ pub fn mask_at(split: usize, mask: u8, p: usize, f: usize) -> u8
     ensures { λ r. ⌜ r ≡ with (cond (eqb p split) mask 0) f ⌝ }
 {
     if p == split {
-        return masks::bar(mask, f as u8);
+        return sets::with8(mask, f as u8);
     }
-    masks::bar(0, f as u8)
+    sets::with8(0, f as u8)
 }
 
 // No child: its action is 255.

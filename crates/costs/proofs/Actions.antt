@@ -23,7 +23,7 @@ use Rattle.index.proofs.Signs.{next-up, weight-up}
 use Rattle.costs.specs.Terms.{term, terms, absExpected, Readable, valueAt, ActionAt, most, Bounded}
 
 -- transitions read by their words are those of the model
-module _ (ws : Words) (z : Sizes) (are : SizesAre ws z) (n j at base : ℕ) (a : at ≡ 4 + z .h + z .s + j) (b : base ≡ firstState ws (n + 1)) where
+module _ (ws : Words) (z : Sizes) (are : SizesAre ws z) (n j at base : ℕ) (a : at ≡ z .columns + j) (b : base ≡ firstState ws (n + 1)) where
   one-is : (i : ℕ) → term ws (at + 1) (z .l) base i ≡ transitionAt ws n (j + 1 + i)
   unfolding transitionAt
   one-is i =
@@ -93,13 +93,13 @@ module _ (ws : Words) (ok : bookNumber ws ≡ 0) (z : Sizes) (are : SizesAre ws 
   pub inside-lines : j + 1 + branches ws j ≤ lineCount ws
   inside-lines = rw (at .line-is) (lines-inside ws ok p (at .state) c (at .action))
 
-  pub cost-is : (k : ℕ) → k ≡ 4 + z .h + z .s + j + z .l → word ws k ≡ action ws p c .cost
+  pub cost-is : (k : ℕ) → k ≡ z .columns + j + z .l → word ws k ≡ action ws p c .cost
   unfolding readAction
   cost-is k e =
       right-is ws z are j k (omega (arith, e)) ∙ ap (right ws) (at .line-is)
       ∙ sym (ap (λ (a : Action). a .cost) (action-is ws p c (at .state) (at .action)))
 
-  pub transitions-are : (k r base : ℕ) → k ≡ 4 + z .h + z .s + j → r ≡ branches ws j → base ≡ firstState ws (stage ws p + 1)
+  pub transitions-are : (k r base : ℕ) → k ≡ z .columns + j → r ≡ branches ws j → base ≡ firstState ws (stage ws p + 1)
       → terms ws (k + 1) (z .l) base 0 r ≡ action ws p c .transitions
   unfolding readAction
   transitions-are k r base e f g =
@@ -116,7 +116,7 @@ terms-at P ws at l base i (suc m) h (suc k) b =
     subst (λ (n : ℕ). P (term ws at l base n)) (suc-add i k ∙ sym (add-suc i k)) (terms-at P ws at l base (suc i) m (h .1) k (omega arith))
 
 module _ (ws : Words) (ok : bookNumber ws ≡ 0) (z : Sizes) (are : SizesAre ws z) (p c j : ℕ) (at : ActionAt ws p c j) where
-  pub readable : (k r base : ℕ) → k ≡ 4 + z .h + z .s + j → r ≡ branches ws j → base ≡ firstState ws (stage ws p + 1)
+  pub readable : (k r base : ℕ) → k ≡ z .columns + j → r ≡ branches ws j → base ≡ firstState ws (stage ws p + 1)
       → Readable ws (k + 1) (z .l) r base
   readable k r base e f g =
       let s = accepted ws ok .sizes in

@@ -67,7 +67,7 @@ pub fn action_cost(
     requires { ⌜ (bookNumber (now b) ≡ 0) × SizesAre (now b) z × IndexOf (now b) (now x) × ActionAt (now b) p c j × (unit ≡ scale (now b) ^ togo (now b) p) × Bounded (now b) p (now v) ⌝ }
     ensures { λ r. ⌜ r ≡ actionCost (scale (now (b .entry))) (togo (now (b .entry)) p) (valueAt (now (v .entry))) (action (now (b .entry)) p c) ⌝ }
 {
-    let at = 4 + z.h + z.s + j;
+    let at = z.columns + j;
     let l = z.l;
     let r = index::plain_at(b, at);
     let base = x[64 + p];

@@ -4,16 +4,16 @@ use book::Stage;
 ghost use mathlib.Core.Path.{_≡_};
 ghost use Prim.Native.Nat.{_+_, _<_, _≤_};
 ghost use lib.ListN.{length};
+ghost use Rattle.model.specs.Lists.{all};
 ghost use Rattle.model.specs.Model.{word, horizon};
-ghost use Rattle.model.specs.Questions.{firstNo, sizesAllowed, lengthAllowed, countsAllowed, sizeQuestions};
+ghost use Rattle.model.specs.Questions.{firstNo, countInside, laterSize, sizesAllowed, lengthAllowed, countsAllowed, sizeQuestions};
 ghost use Rattle.questions.specs.Sizes.{Sized};
 ghost use Rattle.book.specs.Read.{Headed, SizesAre};
-ghost use Rattle.header.specs.Counts.{laterSizes, countAllowed};
 
 // 6, for the stages from 1 on: are there 1 to 16 states at each?
 fn later_sizes(b: &[i32], h: usize) -> bool
     requires { ⌜ (h ≡ horizon (now b)) × (h ≤ 8) × (4 + h ≤ length (now b)) ⌝ }
-    ensures { λ r. ⌜ r ≡ laterSizes (now (b .entry)) ⌝ }
+    ensures { λ r. ⌜ r ≡ all (horizon (now (b .entry))) (laterSize (now (b .entry))) ⌝ }
 {
     let mut n: usize = 0;
     while n < h {
@@ -44,7 +44,7 @@ fn length_allowed(b: &[i32], z: Sizes) -> bool
     requires { ⌜ Headed (now b) × SizesAre (now b) z × (z .s ≤ 64) × (z .l ≤ 2048) ⌝ }
     ensures { λ r. ⌜ r ≡ lengthAllowed (now (b .entry)) ⌝ }
 {
-    b.len() == 4 + z.h + z.s + 2 * z.l
+    b.len() == z.columns + 2 * z.l
 }
 
 // The number of the first of the questions 1 to 7 that is answered no, or 0.
@@ -77,18 +77,23 @@ pub fn size_number(b: &[i32]) -> u32
     0
 }
 
+// The most actions of a state of stage H, and of any other.
+const MOST_LAST: i32 = 1;
+
+const MOST_ACTIONS: i32 = 8;
+
 // 8, of one state of stage n, whose count is word i.
 fn count_allowed(b: &[i32], i: usize, n: usize, h: usize) -> bool
     requires { ⌜ i < length (now b) ⌝ }
-    ensures { λ r. ⌜ r ≡ countAllowed (word (now (b .entry)) i) n h ⌝ }
+    ensures { λ r. ⌜ r ≡ countInside (word (now (b .entry)) i) n h ⌝ }
 {
     if n == h {
-        return book::word_in(b, i, 1, 1);
+        return book::word_in(b, i, 1, MOST_LAST);
     }
-    book::word_in(b, i, 1, 8)
+    book::word_in(b, i, 1, MOST_ACTIONS)
 }
 
-// 8: are there 1 to 8 actions at each state, 1 at stage H?
+// 8, of every state.
 pub fn counts_allowed(b: &[i32], z: Sizes) -> bool
     requires { ⌜ Sized (now b) × SizesAre (now b) z ⌝ }
     ensures { λ r. ⌜ r ≡ countsAllowed (now (b .entry)) ⌝ }

@@ -64,11 +64,11 @@ module _ (ws : Words) (ok : bookNumber ws ≡ 0) (p : ℕ) (hp : p < stateCount 
     inside-line : (i : ℕ) → i < branches ws j → i < branches ws line
     inside-line i h = omega (arith, h, ap (branches ws) at)
 
-    pub line-up : (k : ℕ) → k ≡ 4 + z .h + z .s + j → NotBelow0 (word ws k)
+    pub line-up : (k : ℕ) → k ≡ z .columns + j → NotBelow0 (word ws k)
     line-up k e = rw (left-is ws z are j k e, at) first-up
 
-    pub next-up : (i k : ℕ) → i < branches ws j → k ≡ 4 + z .h + z .s + j + 1 + i → NotBelow0 (word ws k)
+    pub next-up : (i k : ℕ) → i < branches ws j → k ≡ z .columns + j + 1 + i → NotBelow0 (word ws k)
     next-up i k h e = rw (left-is ws z are (line + 1 + i) k (omega (arith, e, at))) (nexts-up i (inside-line i h))
 
-    pub weight-up : (i k : ℕ) → i < branches ws j → k ≡ 4 + z .h + z .s + j + 1 + z .l + i → NotBelow0 (word ws k)
+    pub weight-up : (i k : ℕ) → i < branches ws j → k ≡ z .columns + j + 1 + z .l + i → NotBelow0 (word ws k)
     weight-up i k h e = rw (right-is ws z are (line + 1 + i) k (omega (arith, e, at))) (weights-up i (inside-line i h))

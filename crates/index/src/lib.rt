@@ -22,7 +22,7 @@ pub fn line_after(b: &[i32], z: Sizes, j: usize) -> usize
     requires { ⌜ (bookNumber (now b) ≡ 0) × SizesAre (now b) z × (j < lineCount (now b)) × NotBelow0 (left (now b) j) ⌝ }
     ensures { λ r. ⌜ r ≡ lineAfter (now (b .entry)) j ⌝ }
 {
-    j + 1 + plain_at(b, 4 + z.h + z.s + j)
+    j + 1 + plain_at(b, z.columns + j)
 }
 
 // The first line of action c of state p, whose first line is `line`; for c = its number of actions, that of the next state.

@@ -65,6 +65,10 @@ module _ (f : ℕ → ℤ) where
   best-in [] z i = absurd i
   best-in (x ∷ xs) z i = least-in x xs
 
+  pub best-cases : (xs : List ℕ) → (bestOf f xs ≡ 255) ⊎ In (bestOf f xs) xs
+  best-cases [] = inl refl
+  best-cases (x ∷ xs) = inr (least-in x xs)
+
   pub best-le : (xs : List ℕ) {z : ℕ} → In z xs → f (bestOf f xs) ≤ℤ f z
   best-le [] i = absurd i
   best-le (x ∷ xs) i = least-le x xs i

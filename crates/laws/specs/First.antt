@@ -16,7 +16,7 @@ use Rattle.model.specs.Lists.{isIn}
 use Rattle.model.specs.Model.{Transition, Action}
 use Rattle.model.specs.Policy.{Policy, nexts, allowed, onward}
 use Rattle.model.specs.Path.{byteAt}
-use Rattle.model.specs.Recursion.{costToGo, through, leastToGo}
+use Rattle.model.specs.Recursion.{costToGo, bestOf, through, leastToGo}
 use Rattle.model.specs.Order.{lower}
 use Rattle.laws.specs.Int.{≤ℤ-antisym}
 use Rattle.laws.specs.Members.{T-true, true-T, In, in-one, Every, in-++, every-both, isIn-in, in-isIn, Rising, AtNexts, at-nexts}
@@ -61,11 +61,12 @@ module _ (S : ℕ) (act : ℕ → ℕ → Action) (togo : ℕ → ℕ) (sh : Sha
     reached : Reached bs 0
     reached = (reached-mono act 0 (0 ∷ []) bs 0 (inl refl), sh .some-state)
 
-    closed : (q : ℕ) → Reached bs q
+    pub closed : (q : ℕ) → In q (reachedFrom act 0 (0 ∷ []) bs) × (q < S)
         → In (byteAt bs q) (opts q) × AtNexts (λ r. In r (reachedFrom act 0 (0 ∷ []) bs)) (act q (byteAt bs q) .transitions)
     closed q r = reached-closed act opts (sh .later) (byteAt bs) S 0 (0 ∷ []) bs is (reads bs) q (r .0) (omega arith) (omega arith)
 
-    stays : (q : ℕ) → Reached bs q → AtNexts (Reached bs) (act q (byteAt bs q) .transitions)
+    pub stays : (q : ℕ) → In q (reachedFrom act 0 (0 ∷ []) bs) × (q < S)
+        → AtNexts (λ r. In r (reachedFrom act 0 (0 ∷ []) bs) × (r < S)) (act q (byteAt bs q) .transitions)
     stays q r = every-both (λ t i l. (i, l)) (act q (byteAt bs q) .transitions) (closed q r .1) (sh .inside q (byteAt bs q))
 
     -- a policy of the lists obeys them from state 0 on
@@ -138,18 +139,31 @@ module _ (D S : ℕ) (act : ℕ → ℕ → Action) (togo : ℕ → ℕ) (sh : S
           (here (reached-late act (sh .later) p reach (greedy D act opts togo (suc n) p reach) p (subst (λ z. In z all) (sym e) i)))
       go (inr k) ih = ih k
 
-  G-tight : Tight D act opts (byteAt G) (togo 0) 0
+  -- it takes the lowest best action at each state that it reaches
+  pub first-byte : (q : ℕ) → In q (reachedFrom act 0 (0 ∷ []) (firstPolicy D S act togo opts)) × (q < S)
+      → byteAt (firstPolicy D S act togo opts) q ≡ bestOf (through D act opts (togo q) q) (opts q)
   unfolding best
-  G-tight =
-      tight-on act opts (byteAt G) (Reached S act togo sh opts G) (stays S act togo sh opts G is-policy) D togo (sh .step)
-      (λ q r. rw (greedy-best (byteAt G) S 0 (0 ∷ []) (reads G) q (r .0) (omega arith) (omega arith)) (≤ℤ-refl (leastToGo D act opts (togo q) q)))
-      (togo 0) 0 refl (reached S act togo sh opts G is-policy)
+  first-byte q r = greedy-best (byteAt G) S 0 (0 ∷ []) (reads G) q (r .0) (omega arith) (omega arith)
 
-  -- its cost is the least cost-to-go
+  -- and its cost-to-go there is the least
+  pub first-to-go : (q : ℕ) → In q (reachedFrom act 0 (0 ∷ []) (firstPolicy D S act togo opts)) × (q < S)
+      → costToGo D (λ p. act p (byteAt (firstPolicy D S act togo opts) p)) (togo q) q ≡ leastToGo D act opts (togo q) q
+  first-to-go q r =
+      ≤ℤ-antisym
+      (tight-least D act opts (byteAt G) (togo q) q
+      (tight-on act opts (byteAt G) R on D togo (sh .step) (λ q r. rw (first-byte q r) (≤ℤ-refl (leastToGo D act opts (togo q) q))) (togo q) q refl r))
+      (least-below D act opts (byteAt G) (togo q) q
+      (obeys-on act opts (byteAt G) R on (λ q r. closed S act togo sh opts G is-policy q r .0) (togo q) q r))
+    where
+      R : ℕ → Type 0
+      R = Reached S act togo sh opts G
+
+      on : (q : ℕ) → Reached S act togo sh opts G q → AtNexts (Reached S act togo sh opts G) (act q (byteAt G q) .transitions)
+      on = stays S act togo sh opts G is-policy
+
+  -- from state 0 it is the cost
   pub first-cost : costFrom0 D act togo (firstPolicy D S act togo opts) ≡ leastToGo D act opts (togo 0) 0
-  first-cost =
-      ≤ℤ-antisym (tight-least D act opts (byteAt G) (togo 0) 0 G-tight)
-      (least-below D act opts (byteAt G) (togo 0) 0 (policy-obeys S act togo sh opts G is-policy (togo 0)))
+  first-cost = first-to-go 0 (reached S act togo sh opts G is-policy)
 
   -- no policy is cheaper
   pub cheapest : (bs : Policy) → IsPolicy act opts S 0 (0 ∷ []) bs → costFrom0 D act togo (firstPolicy D S act togo opts) ≤ℤ costFrom0 D act togo bs

@@ -3,6 +3,7 @@ pub mod Members
 pub mod Sorting
 pub mod Paths
 pub mod Bounds
+pub mod ToGo
 pub mod Best
 pub mod Policies
 pub mod Order

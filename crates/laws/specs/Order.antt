@@ -5,22 +5,20 @@ use mathlib.Core.Path.{_≡_, refl, sym, ap₂, _∙_, subst}
 use mathlib.Core.Bool.{Bool, true, false, not, _||_, _&&_}
 use mathlib.Core.Logic.{_⊎_, inl, inr, _↔_}
 use mathlib.Core.List.{List, [], _∷_}
-use mathlib.Core.Option.{some}
 use Prim.Native.Nat.{ℕ, _<_}
 use native.Mathlib.Omega.{arith}
 use native.Mathlib.Decide.{decLt}
 use lib.Dec.{T, not-T, eqb, eqb→eq, eqb-refl, ltb, ltb→lt, lt→ltb}
-use lib.ListN.{getElem?, take, length}
+use lib.ListN.{length}
 use lib.IntN.{ℤ}
 use lib.Signed.{_≤ℤ_, _<ℤ_, leZ, leZ-yes, ltZ, ltZ-yes, ltZ-no, <ℤ-irrefl, clashℤ}
-use Rattle.model.specs.Lists.{count, sorted}
 use Rattle.model.specs.Model.{Action}
 use Rattle.model.specs.Policy.{Policy, policiesFrom}
 use Rattle.model.specs.Order.{lower, before}
 use Rattle.laws.specs.Int.{<→≤, ints, leZ-no, lt-in, le-in}
-use Rattle.laws.specs.Members.{T-true, true-T, false-T, In, Apart, Rising}
-use Rattle.laws.specs.Sorting.{Strict, Total, listed, listed-after}
-use Rattle.laws.specs.Policies.{IsPolicy, in-policy, policy-in, policy-length, policies-apart}
+use Rattle.laws.specs.Members.{T-true, true-T, false-T, In}
+use Rattle.laws.specs.Sorting.{Strict, Total}
+use Rattle.laws.specs.Policies.{in-policy, policy-length}
 
 -- ---- the order of the bytes
 
@@ -151,29 +149,3 @@ module _ (act : ℕ → ℕ → Action) (opts : ℕ → List ℕ) where
       go (inl q) = absurd (n q)
       go (inr (inl l)) = before-is cost y x .1 (inl (leZ-no (not-T (leZ (cost x) (cost y)) (λ h. not-before (inr (leZ-yes h, l))))))
       go (inr (inr l)) = before-is cost y x .1 (inr (ltZ-no (not-T (ltZ (cost x) (cost y)) (λ h. not-before (inl (ltZ-yes h)))), l))
-
-  module _ (rising : (p : ℕ) → Rising (opts p)) (cost : Policy → ℤ) (S : ℕ) where
-    abbrev all : List Policy
-    all = policiesFrom act opts S 0 (0 ∷ [])
-
-    all-apart : Apart all
-    all-apart = policies-apart act opts rising S 0 (0 ∷ [])
-
-    -- entry j of the list is x exactly if x is a policy, j policies come before it, and j is less than K
-    pub the-list : (K j : ℕ) (x : Policy)
-        → (getElem? (take K (sorted (before cost) (policiesFrom act opts S 0 (0 ∷ [])))) j ≡ some x)
-        ↔ (IsPolicy act opts S 0 (0 ∷ []) x × (count (λ y. before cost y x) (policiesFrom act opts S 0 (0 ∷ [])) ≡ j) × (j < K))
-    the-list K j x = (
-      λ e. let h = l .0 e in (in-policy act opts S 0 (0 ∷ []) x (h .0), h .1, h .2),
-      λ h. l .1 (policy-in act opts S 0 (0 ∷ []) x (h .0), h .1, h .2),
-    )
-      where
-        l : (getElem? (take K (sorted (before cost) all)) j ≡ some x) ↔ (In x all × (count (λ y. before cost y x) all ≡ j) × (j < K))
-        l = listed (before cost) (strict cost) K all all-apart (total cost S) j x
-
-    -- and the costs never fall from entry to entry
-    pub list-costs : (K i j : ℕ) (x y : Policy) → i < j
-        → getElem? (take K (sorted (before cost) (policiesFrom act opts S 0 (0 ∷ [])))) i ≡ some x
-        → getElem? (take K (sorted (before cost) (policiesFrom act opts S 0 (0 ∷ [])))) j ≡ some y → cost x ≤ℤ cost y
-    list-costs K i j x y h e k =
-        before-cost cost x y (listed-after (before cost) (strict cost) K all all-apart (total cost S) i j x y h e k)

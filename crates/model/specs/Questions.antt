@@ -30,25 +30,52 @@ andThen (suc m) n = suc m
 abbrev pub inside : ℤ → ℤ → ℤ → Bool
 inside lo hi z = leZ lo z && leZ z hi
 
+-- ---- limits of an action and of a state's actions, for a state of stage n where h is the horizon
+
+-- "1 to 8 choices a post"; "At stage H each post has one choice"
+abbrev pub mostLast : ℕ
+mostLast = 1
+
+abbrev pub mostAt : ℕ → ℕ → ℕ
+mostAt n h = cond (eqb n h) mostLast 8
+
+abbrev pub countInside : ℤ → ℕ → ℕ → Bool
+countInside z n h = inside (pos 1) (pos (mostAt n h)) z
+
+-- "r from 1 to 16 before stage H", "with r = 0" at stage H
+abbrev pub fewestBranches : ℕ
+fewestBranches = 1
+
+abbrev pub mostBranches : ℕ
+mostBranches = 16
+
+abbrev pub branchesInside : ℤ → ℕ → ℕ → Bool
+branchesInside z n h = cond (eqb n h) (inside (pos 0) (pos 0) z) (inside (pos fewestBranches) (pos mostBranches) z)
+
+-- "costs from -100,000 to 100,000"
+abbrev pub costInside : ℤ → Bool
+costInside z = inside (negsuc 99999) (pos 100000) z
+
 -- ---- 6 to 8: sizes
 
--- "one post at stage 0 and 1 to 16 at every other; S at most 64"
+-- "one post at stage 0 and 1 to 16 at every other; S at most 64": of the stage after stage n, and of all
+abbrev pub laterSize : Words → ℕ → Bool
+laterSize ws n = inside (pos 1) (pos 16) (word ws (4 + n))
+
 unfoldable pub sizesAllowed : Words → Bool
 sizesAllowed ws =
-    inside (pos 1) (pos 1) (word ws 3) && all (horizon ws) (λ (n : ℕ). inside (pos 1) (pos 16) (word ws (4 + n)))
-    && leb (stateCount ws) 64
+    inside (pos 1) (pos 1) (word ws 3) && all (horizon ws) (laterSize ws) && leb (stateCount ws) 64
 
 -- "Is the length exactly 4 + H + S + 2L words?"
 unfoldable pub lengthAllowed : Words → Bool
 lengthAllowed ws = eqb (length ws) (4 + horizon ws + stateCount ws + 2 * lineCount ws)
 
--- "1 to 8 choices a post"; "At stage H each post has one choice": the most actions that a state of stage n may have
-unfoldable pub mostActions : Words → ℕ → ℕ
-mostActions ws n = cond (eqb n (horizon ws)) 1 8
+-- "Are the choice counts as allowed, 1 at stage H?": of state p, and of all
+unfoldable pub countAllowed : Words → ℕ → Bool
+countAllowed ws p = countInside (word ws (4 + horizon ws + p)) (stage ws p) (horizon ws)
 
 unfoldable pub countsAllowed : Words → Bool
-countsAllowed ws =
-    all (stateCount ws) (λ (p : ℕ). inside (pos 1) (pos (mostActions ws (stage ws p))) (word ws (4 + horizon ws + p)))
+countsAllowed ws = all (stateCount ws) (countAllowed ws)
 
 -- ---- 9 to 12: a test of each action, handed its state's stage and its first line
 
@@ -56,19 +83,18 @@ unfoldable pub everyAction : (Words → ℕ → ℕ → Bool) → Words → Bool
 everyAction test ws =
     all (stateCount ws) (λ (p : ℕ). all (actionCount ws p) (λ (c : ℕ). test ws (stage ws p) (actionLine ws p c)))
 
--- 9: "r from 1 to 16 before stage H", "with r = 0" at stage H; "do all their lines fit"
+-- 9: "is every r as allowed, do all their lines fit"
 unfoldable pub branchesAllowed : Words → ℕ → ℕ → Bool
 branchesAllowed ws n j =
-    cond (eqb n (horizon ws)) (inside (pos 0) (pos 0) (left ws j)) (inside (pos 1) (pos 16) (left ws j))
-    && leb (lineAfter ws j) (lineCount ws)
+    branchesInside (left ws j) n (horizon ws) && leb (lineAfter ws j) (lineCount ws)
 
 -- "and are exactly L lines used?"
 unfoldable pub linesAllowed : Words → Bool
 linesAllowed ws = everyAction branchesAllowed ws && eqb (stateLine ws (stateCount ws)) (lineCount ws)
 
--- 10: "costs from -100,000 to 100,000"
+-- 10: "Is every cost allowed?"
 unfoldable pub costAllowed : Words → ℕ → ℕ → Bool
-costAllowed ws n j = inside (negsuc 99999) (pos 100000) (right ws j)
+costAllowed ws n j = costInside (right ws j)
 
 -- 11: "Do the next posts of each choice rise strictly and lie within the next stage?" Each is above the one before it, the first above -1
 abbrev pub nextBefore : Words → ℕ → ℕ → ℤ

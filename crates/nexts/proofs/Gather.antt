@@ -13,7 +13,7 @@ use Rattle.model.specs.Questions.{bookNumber}
 use Rattle.model.specs.Policy.{nexts}
 use Rattle.laws.specs.Members.{Every}
 use Rattle.policy.proofs.Marking.{nextsFrom, nexts-cons, nexts-are, nexts-low}
-use Rattle.sets.specs.Sets.{holds, plus, SetOf, holds-none, holds-plus}
+use Rattle.sets.specs.Sets.{has, with, SetOf, has-none, has-with}
 
 or-turn : (a b c : Bool) → ((a || b) || c) ≡ (b || (a || c))
 or-turn true true c = refl
@@ -32,14 +32,14 @@ module _ (ws : Words) (p c r : ℕ) where
   -- those from transition i on are still to be added
   pub record ToAdd (i m : ℕ) : Type 0 where
     pub low : Every (λ (q : ℕ). q < 64) (nextsFrom ws p (actionLine ws p c + 1 + i) (r - i))
-    pub rest : (q : ℕ) → q < 64 → (holds m q || isIn q (nextsFrom ws p (actionLine ws p c + 1 + i) (r - i))) ≡ isIn q (nexts (action ws p c .transitions))
+    pub rest : (q : ℕ) → (has m q || isIn q (nextsFrom ws p (actionLine ws p c + 1 + i) (r - i))) ≡ isIn q (nexts (action ws p c .transitions))
 
   pub all-to-add : bookNumber ws ≡ 0 → p < stateCount ws → c < actionCount ws p → r ≡ branches ws (actionLine ws p c) → ToAdd 0 0
   all-to-add ok l k e =
       let are = nexts-are ws p c r l k e in
       record {
         low = subst (Every (λ (q : ℕ). q < 64)) are (nexts-low ws ok p c);
-        rest = λ q h. ap (λ (b : Bool). b || isIn q (left-over 0)) (holds-none q) ∙ ap (isIn q) (sym are);
+        rest = λ q. ap (λ (b : Bool). b || isIn q (left-over 0)) (has-none q) ∙ ap (isIn q) (sym are);
       }
 
   module _ (i m : ℕ) (a : ToAdd i m) where
@@ -50,20 +50,20 @@ module _ (ws : Words) (p c r : ℕ) where
           nexts-cons ws p (actionLine ws p c + 1 + i) (r - i) (r - (i + 1)) (omega arith) ∙ rw (e, k)
 
       -- q is among the 64 states of a set; once it is added, those from i + 1 on are left
-      pub add-next : (q < 64) × ToAdd (i + 1) (plus m q)
+      pub add-next : (q < 64) × ToAdd (i + 1) (with m q)
       add-next =
           let low = rw cons at (a .low) in (
             low .0,
             record {
               low = low .1;
-              rest = λ k h.
-                  ap (λ (b : Bool). b || isIn k (left-over (i + 1))) (holds-plus m q k (low .0) h)
-                  ∙ or-turn (eqb k q) (holds m k) (isIn k (left-over (i + 1)))
-                  ∙ ap (λ (qs : List ℕ). holds m k || isIn k qs) (sym cons) ∙ a .rest k h;
+              rest = λ k.
+                  ap (λ (b : Bool). b || isIn k (left-over (i + 1))) (has-with m q k)
+                  ∙ or-turn (eqb k q) (has m k) (isIn k (left-over (i + 1)))
+                  ∙ ap (λ (qs : List ℕ). has m k || isIn k qs) (sym cons) ∙ a .rest k;
             },
           )
 
     pub all-added : r ≤ i → SetOf m (nexts (action ws p c .transitions))
     all-added l =
         let z : r - i ≡ 0 = omega arith in
-        record { at = λ q h. sym (or-none (holds m q)) ∙ (rw z at (a .rest q h)) }
+        record { at = λ q. sym (or-none (has m q)) ∙ (rw z at (a .rest q)) }

@@ -16,7 +16,7 @@ fn next_set(b: &[i32], z: Sizes, x: &[usize; 192], p: usize, c: usize, j: usize)
     requires { ⌜ (bookNumber (now b) ≡ 0) × SizesAre (now b) z × IndexOf (now b) (now x) × (p < stateCount (now b)) × (c < actionCount (now b) p) × (j ≡ actionLine (now b) p c) ⌝ }
     ensures { λ r. ⌜ SetOf r (nexts (action (now (b .entry)) p c .transitions)) ⌝ }
 {
-    let at = 4 + z.h + z.s + j;
+    let at = z.columns + j;
     let r = index::plain_at(b, at);
     let base = x[64 + p];
     let mut set: u64 = 0;
@@ -24,7 +24,7 @@ fn next_set(b: &[i32], z: Sizes, x: &[usize; 192], p: usize, c: usize, j: usize)
     while i < r {
         i = i + 1;
         let q = base + index::plain_at(b, at + i);
-        set = sets::add(set, q as u64);
+        set = sets::with64(set, q as u64);
     }
     set
 }

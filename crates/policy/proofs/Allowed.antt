@@ -12,7 +12,7 @@ use Rattle.model.specs.Lists.{isIn}
 use Rattle.model.specs.Model.{Words, actionCount, options}
 use Rattle.model.specs.Policy.{allowed}
 use Rattle.laws.specs.Members.{T-true, true-T, isIn-in, in-isIn}
-use Rattle.accepted.specs.Shape.{options-below, below-options}
+use Rattle.accepted.specs.Options.{option-below, below-option}
 
 -- 255 alone where the state is not reached
 pub allowed-unreached : (os : List ℕ) (c : ℕ) → isIn c (allowed os false) ≡ eqb c 255
@@ -27,6 +27,6 @@ pub allowed-reached : (ws : Words) (p c : ℕ) → isIn c (allowed (options ws p
 allowed-reached ws p c = go (isIn c (options ws p)) refl (decLt c (actionCount ws p))
   where
     go : (b : Bool) → isIn c (options ws p) ≡ b → Dec (c < actionCount ws p) → isIn c (options ws p) ≡ ltb c (actionCount ws p)
-    go b e (yes l) = T-true (isIn c (options ws p)) (in-isIn c (options ws p) (below-options ws p c l)) ∙ sym (lt-ltb c (actionCount ws p) l)
-    go true e (no n) = absurd (n (options-below ws p (isIn-in c (options ws p) (true-T e))))
+    go b e (yes l) = T-true (isIn c (options ws p)) (in-isIn c (options ws p) (below-option ws p c l)) ∙ sym (lt-ltb c (actionCount ws p) l)
+    go true e (no n) = absurd (n (option-below ws p (isIn-in c (options ws p) (true-T e))))
     go false e (no n) = e ∙ sym (le-ltb c (actionCount ws p) (omega arith))

@@ -37,7 +37,7 @@ pub fn mark_nexts(b: &[i32], z: Sizes, x: &[usize; 192], p: usize, c: usize, mar
     requires { ⌜ (bookNumber (now b) ≡ 0) × SizesAre (now b) z × IndexOf (now b) (now x) × (p < stateCount (now b)) × (c < actionCount (now b) p) ⌝ }
     ensures { λ _. ⌜ now (marks .exit) ≡ mark (nexts (action (now (b .entry)) p c .transitions)) (now (marks .entry)) ⌝ }
 {
-    let at = 4 + z.h + z.s + index::action_line(b, z, p, x[p], c);
+    let at = z.columns + index::action_line(b, z, p, x[p], c);
     let r = index::plain_at(b, at);
     let base = x[64 + p];
     let mut i: usize = 0;

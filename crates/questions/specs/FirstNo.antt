@@ -8,11 +8,6 @@ use native.Mathlib.Omega.{arith}
 use Rattle.model.specs.Questions.{Question, firstNo, andThen}
 use Rattle.model.specs.Calls.{ifAccepted}
 
--- what goes with a "yes" and with a "no"
-abbrev pub answered : Bool → ℕ → ℕ → ℕ
-answered true n m = n
-answered false n m = m
-
 -- every question of a list is answered yes
 abbrev pub AllYes : {A : Type 0} → List (Question A) → A → Type 0
 AllYes [] x = Unit {0}

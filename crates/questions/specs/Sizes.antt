@@ -1,7 +1,7 @@
 -- What the questions 1 to 7 say of the sizes, once they are passed.
 -- Assumes nothing.
 use mathlib.Core.Path.{_≡_, subst}
-use mathlib.Core.Bool.{Bool, true, _&&_}
+use mathlib.Core.Bool.{true, _&&_}
 use Prim.Native.Nat.{ℕ, zero, suc, _+_, _*_, _≤_}
 use native.Mathlib.Omega.{arith}
 use borrow.Author.Tests.{leb-true, eqb-true}
@@ -10,14 +10,13 @@ use lib.IntN.{pos, natAbs}
 use lib.ListN.{length}
 use Rattle.model.specs.Lists.{all}
 use Rattle.model.specs.Model.{Words, word, scale, horizon, lineCount, stageSize, stateCount}
-use Rattle.model.specs.Questions.{firstNo, inside, sizesAllowed, lengthAllowed, sizeQuestions}
+use Rattle.model.specs.Questions.{firstNo, inside, laterSize, sizesAllowed, lengthAllowed, sizeQuestions}
 use Rattle.questions.specs.Ranges.{and-true, all-at, inside-range}
 use Rattle.questions.specs.FirstNo.{passed}
 
 pub record Sized (ws : Words) : Type 0 where
   pub d-low : 1 ≤ scale ws
   pub d-high : scale ws ≤ 100
-  pub h-low : 1 ≤ horizon ws
   pub h-high : horizon ws ≤ 8
   pub l-low : 1 ≤ lineCount ws
   pub l-high : lineCount ws ≤ 2048
@@ -32,14 +31,11 @@ pub sizes-say : (ws : Words) → sizesAllowed ws ≡ true
 unfolding sizesAllowed stageSize
 sizes-say ws e = (one, sizes, leb-true (stateCount ws) 64 (p .1))
   where
-    test : ℕ → Bool
-    test n = inside (pos 1) (pos 16) (word ws (4 + n))
+    p : ((inside (pos 1) (pos 1) (word ws 3) && all (horizon ws) (laterSize ws)) ≡ true) × (leb (stateCount ws) 64 ≡ true)
+    p = and-true (inside (pos 1) (pos 1) (word ws 3) && all (horizon ws) (laterSize ws)) (leb (stateCount ws) 64) e
 
-    p : ((inside (pos 1) (pos 1) (word ws 3) && all (horizon ws) (λ (n : ℕ). inside (pos 1) (pos 16) (word ws (4 + n)))) ≡ true) × (leb (stateCount ws) 64 ≡ true)
-    p = and-true (inside (pos 1) (pos 1) (word ws 3) && all (horizon ws) (λ (n : ℕ). inside (pos 1) (pos 16) (word ws (4 + n)))) (leb (stateCount ws) 64) e
-
-    q : (inside (pos 1) (pos 1) (word ws 3) ≡ true) × (all (horizon ws) (λ (n : ℕ). inside (pos 1) (pos 16) (word ws (4 + n))) ≡ true)
-    q = and-true (inside (pos 1) (pos 1) (word ws 3)) (all (horizon ws) (λ (n : ℕ). inside (pos 1) (pos 16) (word ws (4 + n)))) (p .0)
+    q : (inside (pos 1) (pos 1) (word ws 3) ≡ true) × (all (horizon ws) (laterSize ws) ≡ true)
+    q = and-true (inside (pos 1) (pos 1) (word ws 3)) (all (horizon ws) (laterSize ws)) (p .0)
 
     one : natAbs (word ws 3) ≡ 1
     one = let r = inside-range 1 1 (word ws 3) (q .0) in omega arith
@@ -49,7 +45,7 @@ sizes-say ws e = (one, sizes, leb-true (stateCount ws) 64 (p .1))
     sizes (suc n) h =
         let k : 4 + n ≡ 3 + suc n = omega arith in
         subst (λ (i : ℕ). (1 ≤ natAbs (word ws i)) × (natAbs (word ws i) ≤ 16)) k
-        (inside-range 1 16 (word ws (4 + n)) (all-at (horizon ws) (λ (n : ℕ). inside (pos 1) (pos 16) (word ws (4 + n))) (q .1) n (omega arith)))
+        (inside-range 1 16 (word ws (4 + n)) (all-at (horizon ws) (laterSize ws) (q .1) n (omega arith)))
 
 pub sized : (ws : Words) → firstNo sizeQuestions ws ≡ 0 → Sized ws
 unfolding scale horizon lineCount lengthAllowed
@@ -57,7 +53,6 @@ sized ws e =
     record {
       d-low = d .0;
       d-high = d .1;
-      h-low = h .0;
       h-high = h .1;
       l-low = l .0;
       l-high = l .1;

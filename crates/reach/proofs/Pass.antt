@@ -15,7 +15,8 @@ use Rattle.model.specs.Path.{byteAt}
 use Rattle.laws.specs.Members.{every-imp}
 use Rattle.accepted.specs.Shape.{shape}
 use Rattle.splits.specs.Reach.{spread, weightsBefore}
-use Rattle.value.proofs.Bytes.{byte-is, policy-long, byte-cases}
+use Rattle.accepted.specs.Options.{Option, option-below}
+use Rattle.accepted.specs.Bytes.{byte-is, policy-long, byte-cases}
 use Rattle.reach.specs.Weights.{weightAt, firstWeights, Holds, Room, WeightsOf}
 use Rattle.reach.proofs.Bound.{weights, settled, weights-small}
 
@@ -33,15 +34,15 @@ module _ (ws : Words) (ok : bookNumber ws ≡ 0) (bs : Policy) (is : isPolicy ws
   c = getD bs p 0
 
   byte : byteAt bs p ≡ c
-  byte = byte-is bs p 255 0 (omega (arith, policy-long ws ok bs is p l))
+  byte = byte-is bs p 255 0 (omega (arith, policy-long ws ok bs is))
 
   -- is one of the state's actions unless it is 255
   pub byte-action : (c ≡ 255 → ⊥) → c < actionCount ws p
   byte-action n = go (byte-cases ws ok bs is p l)
     where
-      go : (byteAt bs p ≡ 255) ⊎ (byteAt bs p < actionCount ws p) → c < actionCount ws p
+      go : (byteAt bs p ≡ 255) ⊎ Option ws p (byteAt bs p) → c < actionCount ws p
       go (inl e) = absurd (n (sym byte ∙ e))
-      go (inr h) = rw byte at h
+      go (inr o) = rw byte at (option-below ws p o)
 
   module _ (w : List ℕ) (h : Passed ws bs p w) where
     abbrev ts : List Transition

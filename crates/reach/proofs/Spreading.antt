@@ -105,7 +105,7 @@ module _ {ws : Words} {at l base r x i : ℕ} {T : ℕ → ℕ} {w : List ℕ} (
 
 module _ (ws : Words) (ok : bookNumber ws ≡ 0) (z : Sizes) (are : SizesAre ws z) (p c j : ℕ) (a : ActionAt ws p c j) where
   -- none of its transitions is done
-  pub all-to-spread : (at r base x : ℕ) (w : List ℕ) → at ≡ 4 + z .h + z .s + j → r ≡ branches ws j → base ≡ firstState ws (stage ws p + 1)
+  pub all-to-spread : (at r base x : ℕ) (w : List ℕ) → at ≡ z .columns + j → r ≡ branches ws j → base ≡ firstState ws (stage ws p + 1)
       → length w ≡ 64 → Room x (action ws p c .transitions) w
       → ToSpread ws (at + 1) (z .l) base r x 0 (spread x (action ws p c .transitions) (weightAt w)) w
   all-to-spread at r base x w e f g long room =

@@ -34,7 +34,7 @@ fn spread_action(
     requires { ⌜ (bookNumber (now b) ≡ 0) × SizesAre (now b) z × IndexOf (now b) (now x) × (p < stateCount (now b)) × (c < actionCount (now b) p) × (length (now w) ≡ 64) × Room y (action (now b) p c .transitions) (now w) ⌝ }
     ensures { λ _. ⌜ Holds (now (w .exit)) (spread y (action (now (b .entry)) p c .transitions) (weightAt (now (w .entry)))) ⌝ }
 {
-    let line = 4 + z.h + z.s + index::action_line(b, z, p, x[p], c);
+    let line = z.columns + index::action_line(b, z, p, x[p], c);
     let r = index::plain_at(b, line);
     let at = line + 1;
     let l = z.l;

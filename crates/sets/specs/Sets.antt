@@ -1,33 +1,47 @@
--- A set of states as the bits of a number, and the list of states that it stands for.
+-- A set of numbers as the bits of a number, the list that it stands for, and what it leaves of a list. A byte has room for the actions of a state, and 64
+-- bits for the states of a model.
 -- Assumes nothing.
 use mathlib.Core.Path.{_≡_, refl, sym, ap, ap₂, _∙_}
 use mathlib.Core.Bool.{Bool, true, false, cond, _||_}
+use mathlib.Core.Logic.{inl, inr}
 use mathlib.Core.List.{List, [], _∷_, _++_}
 use Prim.Native.Nat.{ℕ, zero, suc, _+_, _*_, _/_, _%_, _^_, _<_}
-use native.Mathlib.Nat.{zero-div}
+use native.Mathlib.Nat.{zero-div, div-one, div-eq-of-lt, mod-eq-of-lt, mul-div-mul-right, mul-mod-left, pow-suc, one-le-pow, pow-le-pow-right}
 use native.Mathlib.Omega.{arith}
 use lib.Bits.{bitOr, or-shr, or-mod}
-use lib.Dec.{eqb}
-use Rattle.model.specs.Lists.{all, isIn}
-use Rattle.questions.specs.Ranges.{all-at}
+use lib.Dec.{eqb, eqb·zero-suc, eqb·suc-zero, eqb·suc-suc}
+use Rattle.model.specs.Lists.{isIn}
+use Rattle.laws.specs.Members.{In}
 
 -- is q in the set?
-unfoldable pub holds : ℕ → ℕ → Bool
-holds m q = eqb (m / 2 ^ q % 2) 1
+abbrev pub has : ℕ → ℕ → Bool
+has m q = eqb (m / 2 ^ q % 2) 1
 
 -- the set with q
-unfoldable pub plus : ℕ → ℕ → ℕ
-plus m q = bitOr m (1 * 2 ^ q % 18446744073709551616)
+unfoldable pub with : ℕ → ℕ → ℕ
+with m q = bitOr m (2 ^ q)
 
--- the states of both
-unfoldable pub both : ℕ → ℕ → ℕ
-both m n = bitOr m n
+-- the numbers of either set
+abbrev pub union : ℕ → ℕ → ℕ
+union m n = bitOr m n
+
+-- of a list, the numbers that are not in the set
+abbrev pub free : ℕ → List ℕ → List ℕ
+free m [] = []
+free m (x ∷ xs) = cond (has m x) (free m xs) (x ∷ free m xs)
 
 -- the set stands for the list
 pub record SetOf (m : ℕ) (qs : List ℕ) : Type 0 where
-  pub at : (q : ℕ) → q < 64 → holds m q ≡ isIn q qs
+  pub at : (q : ℕ) → has m q ≡ isIn q qs
 
 -- ---- bits
+
+-- 1 shifted by q places, in a word of w bits
+pub one-shifted : (w q : ℕ) → q < w → 1 * 2 ^ q % 2 ^ w ≡ 2 ^ q
+one-shifted w q h =
+    let e : 1 * 2 ^ q ≡ 2 ^ q = omega arith in
+    let small : 2 ^ q < 2 ^ w = omega (arith, pow-suc 2 q, one-le-pow q 2 (omega arith), pow-le-pow-right {n = 2} (omega arith) {i = suc q} {j = w} (omega arith)) in
+    rw e (mod-eq-of-lt small)
 
 or-bits : (x y : ℕ) → x < 2 → y < 2 → eqb (bitOr x y) 1 ≡ (eqb x 1 || eqb y 1)
 or-bits zero zero h k = refl
@@ -38,30 +52,23 @@ or-bits (suc zero) (suc zero) h k = refl
 or-bits (suc zero) (suc (suc y)) h k = absurd (omega arith)
 or-bits (suc (suc x)) y h k = absurd (omega arith)
 
-pub holds-both : (m n q : ℕ) → holds (both m n) q ≡ (holds m q || holds n q)
-unfolding holds both
-holds-both m n q =
+pub has-union : (m n q : ℕ) → has (union m n) q ≡ (has m q || has n q)
+has-union m n q =
     ap (λ (x : ℕ). eqb (x % 2) 1) (or-shr m n q) ∙ ap (λ (x : ℕ). eqb x 1) (or-mod (m / 2 ^ q) (n / 2 ^ q) 1)
     ∙ or-bits (m / 2 ^ q % 2) (n / 2 ^ q % 2) (omega arith) (omega arith)
 
-pub holds-none : (q : ℕ) → holds 0 q ≡ false
-unfolding holds
-holds-none q = rw (zero-div (2 ^ q))
+pub has-none : (q : ℕ) → has 0 q ≡ false
+has-none q = rw (zero-div (2 ^ q))
 
--- one bit: a test that the checker computes for every state added and every state asked
-one-test : ℕ → ℕ → Bool
-unfolding holds
-one-test q k = eqb (cond (holds (1 * 2 ^ q % 18446744073709551616) k) 1 0) (cond (eqb k q) 1 0)
-
-one-tested : (q k : ℕ) → q < 64 → k < 64 → one-test q k ≡ true
-unfolding one-test holds
-one-tested q k h l = all-at 64 (one-test q) (all-at 64 (λ (q : ℕ). all 64 (one-test q)) refl q h) k l
-
-as-bool : (a b : Bool) → eqb (cond a 1 0) (cond b 1 0) ≡ true → a ≡ b
-as-bool true true e = refl
-as-bool false false e = refl
-as-bool true false e = sym e
-as-bool false true e = e
+-- one bit
+has-one : (q k : ℕ) → has (2 ^ q) k ≡ eqb k q
+has-one zero zero = refl
+has-one zero (suc k) =
+    let big : 1 < 2 ^ suc k = omega (arith, pow-suc 2 k, one-le-pow k 2 (omega arith)) in
+    rw (div-eq-of-lt big) (sym (eqb·suc-zero k))
+has-one (suc q) zero = rw (div-one (2 ^ suc q), pow-suc 2 q, mul-mod-left (2 ^ q) 2) (sym (eqb·zero-suc q))
+has-one (suc q) (suc k) =
+    rw (pow-suc 2 q, pow-suc 2 k, mul-div-mul-right {m = 2} (2 ^ q) (2 ^ k) (omega arith)) (has-one q k ∙ sym (eqb·suc-suc k q))
 
 or-swap : (a b : Bool) → (a || b) ≡ (b || a)
 or-swap true true = refl
@@ -69,20 +76,35 @@ or-swap true false = refl
 or-swap false true = refl
 or-swap false false = refl
 
-pub holds-plus : (m q k : ℕ) → q < 64 → k < 64 → holds (plus m q) k ≡ (eqb k q || holds m k)
-unfolding plus both one-test
-holds-plus m q k h l =
-    holds-both m (1 * 2 ^ q % 18446744073709551616) k
-    ∙ ap (λ (b : Bool). holds m k || b) (as-bool (holds (1 * 2 ^ q % 18446744073709551616) k) (eqb k q) (one-tested q k h l))
-    ∙ or-swap (holds m k) (eqb k q)
+-- k is in the set with q if it is q or in the set
+pub has-with : (m q k : ℕ) → has (with m q) k ≡ (eqb k q || has m k)
+unfolding with
+has-with m q k = has-union m (2 ^ q) k ∙ ap (λ (b : Bool). has m k || b) (has-one q k) ∙ or-swap (has m k) (eqb k q)
+
+-- ---- what a set leaves
+
+-- the empty set leaves every number
+pub free-all : (xs : List ℕ) → free 0 xs ≡ xs
+free-all [] = refl
+free-all (x ∷ xs) = rw (has-none x, free-all xs)
+
+-- what is left is of the list
+pub free-in : (m c : ℕ) (xs : List ℕ) → In c (free m xs) → In c xs
+free-in m c [] i = i
+free-in m c (x ∷ xs) i = go (has m x) i (free-in m c xs)
+  where
+    go : (b : Bool) → In c (cond b (free m xs) (x ∷ free m xs)) → (In c (free m xs) → In c xs) → In c (x ∷ xs)
+    go true j ih = inr (ih j)
+    go false (inl e) ih = inl e
+    go false (inr j) ih = inr (ih j)
 
 -- ---- sets that stand for lists
 
 pub set-none : SetOf 0 []
-set-none = record { at = λ q h. holds-none q }
+set-none = record { at = has-none }
 
-pub set-plus : (m q : ℕ) (qs : List ℕ) → q < 64 → SetOf m qs → SetOf (plus m q) (q ∷ qs)
-set-plus m q qs h s = record { at = λ k l. holds-plus m q k h l ∙ ap (λ (b : Bool). eqb k q || b) (s .at k l) }
+pub set-with : (m q : ℕ) (qs : List ℕ) → SetOf m qs → SetOf (with m q) (q ∷ qs)
+set-with m q qs s = record { at = λ k. has-with m q k ∙ ap (λ (b : Bool). eqb k q || b) (s .at k) }
 
 in-++ : (k : ℕ) (xs ys : List ℕ) → isIn k (xs ++ ys) ≡ (isIn k xs || isIn k ys)
 in-++ k [] ys = refl
@@ -92,6 +114,5 @@ in-++ k (x ∷ xs) ys = ap (λ (b : Bool). eqb k x || b) (in-++ k xs ys) ∙ or-
     or-assoc true b c = refl
     or-assoc false b c = refl
 
-pub set-both : (m n : ℕ) (xs ys : List ℕ) → SetOf m xs → SetOf n ys → SetOf (both m n) (xs ++ ys)
-set-both m n xs ys s t =
-    record { at = λ k l. holds-both m n k ∙ ap₂ _||_ (s .at k l) (t .at k l) ∙ sym (in-++ k xs ys) }
+pub set-union : (m n : ℕ) (xs ys : List ℕ) → SetOf m xs → SetOf n ys → SetOf (union m n) (xs ++ ys)
+set-union m n xs ys s t = record { at = λ k. has-union m n k ∙ ap₂ _||_ (s .at k) (t .at k) ∙ sym (in-++ k xs ys) }

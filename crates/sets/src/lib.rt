@@ -1,27 +1,43 @@
-// Sets of up to 64 states as the bits of a number: a book has at most 64.
+// Sets of numbers as the bits of a number: of up to 8 actions in a byte, of up to 64 states in 64 bits.
 ghost use mathlib.Core.Path.{_≡_};
 ghost use Prim.Native.Nat.{_<_};
-ghost use Rattle.sets.specs.Sets.{holds, plus, both};
+ghost use Rattle.sets.specs.Sets.{has, with, union};
+
+// Is action c in the set?
+pub fn has8(set: u8, c: u8) -> bool
+    requires { ⌜ c < 8 ⌝ }
+    ensures { λ r. ⌜ r ≡ has set c ⌝ }
+{
+    (set >> c) % 2 == 1
+}
+
+// The set with action c.
+pub fn with8(set: u8, c: u8) -> u8
+    requires { ⌜ c < 8 ⌝ }
+    ensures { λ r. ⌜ r ≡ with set c ⌝ }
+{
+    set | (1 << c)
+}
 
 // Is state q in the set?
-pub fn in_set(set: u64, q: u64) -> bool
+pub fn has64(set: u64, q: u64) -> bool
     requires { ⌜ q < 64 ⌝ }
-    ensures { λ r. ⌜ r ≡ holds set q ⌝ }
+    ensures { λ r. ⌜ r ≡ has set q ⌝ }
 {
     (set >> q) % 2 == 1
 }
 
 // The set with state q.
-pub fn add(set: u64, q: u64) -> u64
+pub fn with64(set: u64, q: u64) -> u64
     requires { ⌜ q < 64 ⌝ }
-    ensures { λ r. ⌜ r ≡ plus set q ⌝ }
+    ensures { λ r. ⌜ r ≡ with set q ⌝ }
 {
     set | (1 << q)
 }
 
-// The states of both sets.
-pub fn join(a: u64, b: u64) -> u64
-    ensures { λ r. ⌜ r ≡ both a b ⌝ }
+// The states of either set.
+pub fn union64(a: u64, b: u64) -> u64
+    ensures { λ r. ⌜ r ≡ union a b ⌝ }
 {
     a | b
 }

@@ -2,108 +2,50 @@
 -- the actions of f before r, the best of the other actions at r, and best actions of the model after r. So does f after r. So of r and the later
 -- states that both reach, only r has another cost-to-go, and the costs of the two differ by the reach weight of r times that difference.
 -- Assumes nothing.
-use mathlib.Core.Path.{_≡_, refl, sym, ap, ap₂, _∙_, fun-ext}
+use mathlib.Core.Path.{_≡_, refl, sym, ap, ap₂, _∙_}
 use mathlib.Core.Logic.{_⊎_, inl, inr, _↔_}
 use mathlib.Core.List.{List, [], _∷_}
-use Prim.Native.Nat.{ℕ, zero, suc, _^_, _≤_, _<_}
+use Prim.Native.Nat.{ℕ, zero, suc, _≤_, _<_}
 use native.Mathlib.Omega.{arith}
 use lib.IntN.{ℤ, pos, _+ℤ_, _-ℤ_, _*ℤ_}
-use lib.ListN.{length}
-use lib.Signed.{≤ℤ-refl}
-use Rattle.model.specs.Lists.{isIn}
 use Rattle.model.specs.Model.{Action}
-use Rattle.model.specs.Policy.{Policy, onward}
+use Rattle.model.specs.Policy.{Policy}
 use Rattle.model.specs.Path.{byteAt}
 use Rattle.model.specs.Recursion.{costToGo, bestOf, through, leastToGo}
-use Rattle.laws.specs.Int.{≤ℤ-antisym}
-use Rattle.laws.specs.Members.{T-true, In, every-imp, every-both, in-isIn, AtNexts}
-use Rattle.laws.specs.Best.{least-below, tight-least}
-use Rattle.laws.specs.Policies.{IsPolicy, policy-length, reachedFrom, reached-closed, Reads, reads}
-use Rattle.laws.specs.Greedy.{byteOf, best, greedy, obeys-on, tight-on}
-use Rattle.laws.specs.First.{Shape, Lists, costFrom0, firstPolicy, is-policy}
+use Rattle.laws.specs.Members.{In}
+use Rattle.laws.specs.ToGo.{through-same, least-same}
+use Rattle.laws.specs.Policies.{IsPolicy, policy-length, reachedFrom, reads}
+use Rattle.laws.specs.First.{Shape, Lists, costFrom0, firstPolicy, is-policy, first-byte, first-to-go}
 use Rattle.splits.specs.Parts.{without, split-eq, split-gt, Reaches, reaches-is, part-front}
 use Rattle.splits.specs.Kbest.{childAt, child-lists}
-use Rattle.splits.specs.Reach.{weightsBefore, reachWeight, weights-same, expected-same, reach-moves, reach-moves-by}
+use Rattle.splits.specs.Reach.{weightsBefore, reachWeight, weights-same, reach-moves-by}
 use Rattle.splits.specs.Reach.{known-reached, known-weight}
 
 -- ---- the first policy at each state that it reaches
-
-module _ (D : ℕ) (act : ℕ → ℕ → Action) (opts : ℕ → List ℕ) (togo : ℕ → ℕ) where
-  greedy-at : (f : ℕ → ℕ) (n p : ℕ) (reach : List ℕ) → Reads f p (greedy D act opts togo n p reach)
-      → (q : ℕ) → Reaches act q p reach (greedy D act opts togo n p reach) → f q ≡ best D act opts togo q
-  greedy-at f zero p reach h q i = absurd i
-  greedy-at f (suc n) p reach h q (inl i) = rw (i .0) (h .0 ∙ rw (T-true (isIn p reach) (in-isIn p reach (i .1))))
-  greedy-at f (suc n) p reach h q (inr i) =
-      greedy-at f n (suc p) (onward act p (byteOf (isIn p reach) (best D act opts togo p)) reach) (h .1) q i
 
 module _ (D S : ℕ) (act : ℕ → ℕ → Action) (togo : ℕ → ℕ) (sh : Shape S act togo) (Alive : ℕ → Type 0) (opts : ℕ → List ℕ)
     (li : Lists Alive act opts) where
   abbrev G : Policy
   G = firstPolicy D S act togo opts
 
-  abbrev ReachedByG : ℕ → Type 0
-  ReachedByG q = Reaches act q 0 (0 ∷ []) G
-
-  -- it takes the lowest best action there
-  pub first-byte : (q : ℕ) → Reaches act q 0 (0 ∷ []) (firstPolicy D S act togo opts)
-      → byteAt (firstPolicy D S act togo opts) q ≡ bestOf (through D act opts (togo q) q) (opts q)
-  unfolding best
-  first-byte q i = greedy-at D act opts togo (byteAt G) S 0 (0 ∷ []) (reads G) q i
-
   policy : IsPolicy act opts S 0 (0 ∷ []) G
   policy = is-policy D S act togo sh Alive opts li
 
-  size : length G ≡ S
-  size = policy-length act opts S 0 (0 ∷ []) G policy
-
   -- the states of the model that it reaches are those that it is known to reach after all its bytes
-  reached-is : (q : ℕ) → ReachedByG q ↔ (In q (reachedFrom act 0 (0 ∷ []) G) × (q < S))
+  reached-is : (q : ℕ) → Reaches act q 0 (0 ∷ []) G ↔ (In q (reachedFrom act 0 (0 ∷ []) G) × (q < S))
   reached-is q =
       let e = reaches-is act (sh .later) q 0 (0 ∷ []) G in
+      let size = policy-length act opts S 0 (0 ∷ []) G policy in
       (λ i. let h = e .0 i in (h .0, omega (arith, h .2, size)), λ h. e .1 (h .0, omega arith, omega (arith, size)))
 
-  closed : (q : ℕ) → ReachedByG q → In (byteAt G q) (opts q) × AtNexts ReachedByG (act q (byteAt G q) .transitions)
-  closed q i =
-      let h = reached-is q .0 i in
-      let c = reached-closed act opts (sh .later) (byteAt G) S 0 (0 ∷ []) G policy (reads G) q (h .0) (omega arith) (omega arith) in
-      (c .0, every-both (λ t j l. reached-is (t .next) .1 (j, l)) (act q (byteAt G q) .transitions) (c .1) (sh .inside q (byteAt G q)))
-
-  -- and its cost-to-go there is the least
-  pub first-to-go : (q : ℕ) → Reaches act q 0 (0 ∷ []) (firstPolicy D S act togo opts)
-      → costToGo D (λ p. act p (byteAt (firstPolicy D S act togo opts) p)) (togo q) q ≡ leastToGo D act opts (togo q) q
-  first-to-go q i =
-      ≤ℤ-antisym
-      (tight-least D act opts (byteAt G) (togo q) q
-      (tight-on act opts (byteAt G) ReachedByG stays D togo (sh .step)
-      (λ q j. rw (first-byte q j) (≤ℤ-refl (leastToGo D act opts (togo q) q))) (togo q) q refl i))
-      (least-below D act opts (byteAt G) (togo q) q (obeys-on act opts (byteAt G) ReachedByG stays (λ q j. closed q j .0) (togo q) q i))
-    where
-      stays : (q : ℕ) → ReachedByG q → AtNexts ReachedByG (act q (byteAt G q) .transitions)
-      stays q j = closed q j .1
+  -- its cost-to-go there is the least
+  to-go-at : (q : ℕ) → Reaches act q 0 (0 ∷ []) G → costToGo D (λ p. act p (byteAt G p)) (togo q) q ≡ leastToGo D act opts (togo q) q
+  to-go-at q i = first-to-go D S act togo sh Alive opts li q (reached-is q .0 i)
 
   -- a state of the model that has a weight is reached
-  weighs : (p s : ℕ) → p ≤ s → s < S → 0 < weightsBefore (λ q. act q (byteAt G q)) p s → ReachedByG s
+  weighs : (p s : ℕ) → p ≤ s → s < S → 0 < weightsBefore (λ q. act q (byteAt G q)) p s → Reaches act s 0 (0 ∷ []) G
   weighs p s a b h =
       reached-is s .1 (known-reached act p 0 (0 ∷ []) G s (known-weight act opts (sh .positive) (sh .bare) S G policy p (omega arith) s a .0 h), b)
-
--- ---- lists that are the same after state r
-
-module _ (D : ℕ) (act : ℕ → ℕ → Action) (later : (p c : ℕ) → AtNexts (λ q. p < q) (act p c .transitions))
-    (os all : ℕ → List ℕ) (r : ℕ) (after : (s : ℕ) → r < s → os s ≡ all s) where
-  least-from : (m q : ℕ) → r < q → through D act os m q ≡ through D act all m q → leastToGo D act os m q ≡ leastToGo D act all m q
-  least-from m q l e = ap₂ (λ (g : ℕ → ℤ) (xs : List ℕ). g (bestOf g xs)) e (after q l)
-
-  -- the cost of an action at r or after it, with best actions ever after
-  through-same : (m q : ℕ) → r ≤ q → through D act os m q ≡ through D act all m q
-  through-same zero q l = refl
-  through-same (suc m) q l =
-      fun-ext (λ c. ap (λ (z : ℤ). pos (D ^ suc m) *ℤ act q c .cost +ℤ z)
-      (expected-same (leastToGo D act os m) (leastToGo D act all m) (act q c .transitions)
-      (every-imp (λ t k. least-from m (t .next) (omega arith) (through-same m (t .next) (omega arith))) (act q c .transitions) (later q c))))
-
-  -- the least cost-to-go after r
-  least-same : (m q : ℕ) → r < q → leastToGo D act os m q ≡ leastToGo D act all m q
-  least-same m q l = least-from m q l (through-same m q (omega arith))
 
 -- ---- the child at a state
 
@@ -145,20 +87,6 @@ module _ (D S : ℕ) (act : ℕ → ℕ → Action) (togo : ℕ → ℕ) (sh : S
       → byteAt (firstPolicy D S act togo (childAt D S act togo os r)) q ≡ byteAt (firstPolicy D S act togo os) q
   child-front q l = front .0 q (omega arith) l
 
-  -- at r it takes the lowest best action of those that are left
-  pub child-byte : byteAt (firstPolicy D S act togo (childAt D S act togo os r)) r ≡ nextBest D S act togo all os r
-  child-byte =
-      first-byte D S act togo sh Alive ks ks-lists r (front .1)
-      ∙ ap₂ bestOf (through-same D act (sh .later) ks all r ks-after (togo r) r (omega arith))
-      (split-eq (byteAt f) r (without (byteAt f r) (os r)) os)
-
-  -- and after r, where it reaches a state, the lowest best action of the model
-  pub child-after : (s : ℕ) → r < s → Reaches act s 0 (0 ∷ []) (firstPolicy D S act togo (childAt D S act togo os r))
-      → byteAt (firstPolicy D S act togo (childAt D S act togo os r)) s ≡ bestOf (through D act all (togo s) s) (all s)
-  child-after s l i =
-      first-byte D S act togo sh Alive ks ks-lists s i
-      ∙ ap₂ bestOf (through-same D act (sh .later) ks all r ks-after (togo s) s (omega arith)) (ks-after s l)
-
   -- ---- its cost
 
   abbrev v : ℕ → ℤ
@@ -176,13 +104,13 @@ module _ (D S : ℕ) (act : ℕ → ℕ → Action) (togo : ℕ → ℕ) (sh : S
   -- the costs-to-go at r
   f-at : v r ≡ through D act all (togo r) r (byteAt f r)
   f-at =
-      first-to-go D S act togo sh Alive os li r reached
-      ∙ ap (through D act os (togo r) r) (sym (first-byte D S act togo sh Alive os li r reached))
+      to-go-at D S act togo sh Alive os li r reached
+      ∙ ap (through D act os (togo r) r) (sym (first-byte D S act togo sh Alive os li r (reached-is D S act togo sh Alive os li r .0 reached)))
       ∙ ap (λ (g : ℕ → ℤ). g (byteAt f r)) (through-same D act (sh .later) os all r after (togo r) r (omega arith))
 
   k-at : v′ r ≡ through D act all (togo r) r (nextBest D S act togo all os r)
   k-at =
-      first-to-go D S act togo sh Alive ks ks-lists r (front .1)
+      to-go-at D S act togo sh Alive ks ks-lists r (front .1)
       ∙ ap₂ (λ (g : ℕ → ℤ) (xs : List ℕ). g (bestOf g xs)) (through-same D act (sh .later) ks all r ks-after (togo r) r (omega arith))
       (split-eq (byteAt f) r (without (byteAt f r) (os r)) os)
 
@@ -192,12 +120,12 @@ module _ (D S : ℕ) (act : ℕ → ℕ → Action) (togo : ℕ → ℕ) (sh : S
     where
       k-least : 0 < weightsBefore (λ p. act p (byteAt k p)) r s → v′ s ≡ leastToGo D act all (togo s) s
       k-least h =
-          first-to-go D S act togo sh Alive ks ks-lists s (weighs D S act togo sh Alive ks ks-lists r s (omega arith) b h)
+          to-go-at D S act togo sh Alive ks ks-lists s (weighs D S act togo sh Alive ks ks-lists r s (omega arith) b h)
           ∙ least-same D act (sh .later) ks all r ks-after (togo s) s l
 
       f-least : 0 < weightsBefore (λ p. act p (byteAt f p)) r s → v s ≡ leastToGo D act all (togo s) s
       f-least h =
-          first-to-go D S act togo sh Alive os li s (weighs D S act togo sh Alive os li r s (omega arith) b h)
+          to-go-at D S act togo sh Alive os li s (weighs D S act togo sh Alive os li r s (omega arith) b h)
           ∙ least-same D act (sh .later) os all r after (togo s) s l
 
       same : weightsBefore (λ p. act p (byteAt k p)) r s ≡ weightsBefore (λ p. act p (byteAt f p)) r s
@@ -206,15 +134,6 @@ module _ (D S : ℕ) (act : ℕ → ℕ → Action) (togo : ℕ → ℕ) (sh : S
       go : (w : ℕ) → weightsBefore (λ p. act p (byteAt f p)) r s ≡ w → (weightsBefore (λ p. act p (byteAt f p)) r s ≡ 0) ⊎ (v′ s ≡ v s)
       go zero e = inl e
       go (suc w) e = inr (k-least (omega (arith, same)) ∙ sym (f-least (omega arith)))
-
-  -- the child's cost by the candidate's
-  pub child-cost : costFrom0 D act togo (firstPolicy D S act togo (childAt D S act togo os r))
-      +ℤ pos (reachWeight act (firstPolicy D S act togo os) r) *ℤ through D act all (togo r) r (byteAt (firstPolicy D S act togo os) r)
-      ≡ costFrom0 D act togo (firstPolicy D S act togo os)
-      +ℤ pos (reachWeight act (firstPolicy D S act togo os) r) *ℤ through D act all (togo r) r (nextBest D S act togo all os r)
-  child-cost =
-      rw (← f-at, ← k-at) (reach-moves D togo S (λ p. act p (byteAt f p)) (λ p. sh .step p (byteAt f p)) (λ p. sh .later p (byteAt f p))
-      (λ p. sh .inside p (byteAt f p)) (λ p. act p (byteAt k p)) r r-inside same-front unmoved)
 
   -- the same by the difference
   pub child-cost-by : costFrom0 D act togo (firstPolicy D S act togo (childAt D S act togo os r))

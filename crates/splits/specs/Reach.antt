@@ -8,7 +8,7 @@ use mathlib.Core.Bool.{Bool, true, false, cond}
 use mathlib.Core.Logic.{_⊎_, inl, inr, _↔_}
 use mathlib.Core.List.{List, [], _∷_}
 use Prim.Native.Nat.{ℕ, zero, suc, _+_, _*_, _-_, _^_, _≤_, _<_}
-use native.Mathlib.Nat.{eq-or-lt-of-le, add-zero, zero-add, add-suc, suc-add, mul-pos, mul-le-mul-right, pow-suc, pow-zero}
+use native.Mathlib.Nat.{eq-or-lt-of-le, add-zero, zero-add, add-suc, suc-add, mul-pos, mul-le-mul-right, pow-suc}
 use native.Mathlib.Omega.{arith}
 use borrow.Author.Tests.{eqb-true, eq-eqb, ne-eqb}
 use lib.Dec.{eqb}
@@ -23,7 +23,8 @@ use Rattle.model.specs.Recursion.{expected, actionCost, costToGo}
 use Rattle.laws.specs.Int.{up, dn, is, dif-eq, ring, eq-in, le-in, le-out, ints, sum-is, scale-mono, ≤ℤ-trans}
 use Rattle.laws.specs.Members.{true-T, In, in-one, in-++, ++-in, Every, every-imp, isIn-in, AtNexts}
 use Rattle.laws.specs.Paths.{weightsOf}
-use Rattle.laws.specs.Policies.{IsPolicy, reachedFrom, reached-mono, reached-late, Reads, reads}
+use Rattle.laws.specs.ToGo.{expected-none, by-stage}
+use Rattle.laws.specs.Policies.{IsPolicy, reachedFrom, reached-mono, Reads, reads}
 
 -- ---- reach weights
 
@@ -208,14 +209,6 @@ module _ (v : ℕ → ℤ) where
 
 -- ---- the cost-to-go of a state by those of its next states
 
-pub expected-same : (v u : ℕ → ℤ) (ts : List Transition) → AtNexts (λ q. v q ≡ u q) ts → expected v ts ≡ expected u ts
-expected-same v u [] h = refl
-expected-same v u (t ∷ ts) h = ap₂ (λ (x y : ℤ). pos (t .weight) *ℤ x +ℤ y) (h .0) (expected-same v u ts (h .1))
-
-expected-none : (v : ℕ → ℤ) (togo : ℕ → ℕ) (ts : List Transition) → AtNexts (λ q. 0 ≡ suc (togo q)) ts → expected v ts ≡ pos 0
-expected-none v togo [] h = refl
-expected-none v togo (t ∷ ts) h = absurd (omega arith)
-
 module _ (D : ℕ) (togo : ℕ → ℕ) where
   -- the cost-to-go of state s by the actions taken
   abbrev goCost : (ℕ → Action) → ℕ → ℤ
@@ -223,20 +216,7 @@ module _ (D : ℕ) (togo : ℕ → ℕ) where
 
   to-go-is : (taken : ℕ → Action) (p : ℕ) → AtNexts (λ q. togo p ≡ suc (togo q)) (taken p .transitions)
       → goCost taken p ≡ actionCost D (togo p) (goCost taken) (taken p)
-  to-go-is taken p step = go (togo p) step
-    where
-      no-next : (c : ℤ) → c ≡ pos 1 *ℤ c +ℤ pos 0
-      no-next c = rw (is c) (simp ring (dif-eq _ _ _ _ (omega arith)))
-
-      one-on : (m q : ℕ) → m ≡ togo q → costToGo D taken m q ≡ goCost taken q
-      one-on m q e = ap (λ (i : ℕ). costToGo D taken i q) e
-
-      go : (m : ℕ) → AtNexts (λ q. m ≡ suc (togo q)) (taken p .transitions) → costToGo D taken m p ≡ actionCost D m (goCost taken) (taken p)
-      go zero h = rw (pow-zero D, expected-none (goCost taken) togo (taken p .transitions) h) (no-next (taken p .cost))
-      go (suc m) h =
-          ap (λ (z : ℤ). pos (D ^ suc m) *ℤ taken p .cost +ℤ z)
-          (expected-same (costToGo D taken m) (goCost taken) (taken p .transitions)
-          (every-imp (λ t e. one-on m (t .next) (omega arith)) (taken p .transitions) h))
+  to-go-is taken p step = by-stage D togo (costToGo D taken) p (taken p) step (λ m. costToGo D taken m p) refl (λ m. refl)
 
   -- ---- a change of one state's cost-to-go
 
@@ -476,22 +456,3 @@ module _ (act : ℕ → ℕ → Action) where
           → (0 < weightsBefore (λ q. act q (byteAt bs q)) p s) ↔ In s (reachedFrom act 0 (0 ∷ []) (take p bs))
       known-weight p l =
           rw zero-add at (agree-on (byteAt bs) p S 0 (0 ∷ []) bs policy (reads bs) (agree-start (byteAt bs)) l)
-
-      -- a state has a reach weight exactly if it is reached
-      pub reached-weight : ((p c : ℕ) → AtNexts (λ q. p < q) (act p c .transitions)) → (r : ℕ) → r < S
-          → (0 < reachWeight act bs r) ↔ In r (reachedFrom act 0 (0 ∷ []) bs)
-      reached-weight later r l =
-          (λ h. known-reached r 0 (0 ∷ []) bs r (w .0 h), λ i. w .1 (known (reached-late act later (0 + r) before (drop r bs) r (rw (← on) at i))))
-        where
-          before : List ℕ
-          before = reachedFrom act 0 (0 ∷ []) (take r bs)
-
-          on : reachedFrom act (0 + r) before (drop r bs) ≡ reachedFrom act 0 (0 ∷ []) bs
-          on = reached-on r 0 (0 ∷ []) bs
-
-          w : (0 < reachWeight act bs r) ↔ In r before
-          w = known-weight r (omega arith) r (omega arith)
-
-          known : In r before ⊎ (0 + r < r) → In r before
-          known (inl i) = i
-          known (inr k) = absurd (omega arith)

@@ -12,23 +12,22 @@ use borrow.Author.Tests.{le-leb, lt-leb, ne-eqb, eq-eqb}
 use lib.Dec.{T, eqb, leb}
 use lib.IntN.{ℤ}
 use Rattle.model.specs.Lists.{isIn}
-use Rattle.model.specs.Model.{Words, scale, stateCount, togo, actionCount, action, options}
+use Rattle.model.specs.Model.{Words, scale, stateCount, togo, action, options}
 use Rattle.model.specs.Questions.{bookNumber}
 use Rattle.model.specs.Policy.{Policy, isPolicy, onward}
 use Rattle.model.specs.Path.{byteAt}
-use Rattle.laws.specs.Members.{In, in-one, Every, every-in, isIn-in, true-T, T-true}
+use Rattle.laws.specs.Members.{In, in-one, Every, isIn-in, true-T, T-true}
 use Rattle.laws.specs.Policies.{IsPolicy, Reads, reads}
 use Rattle.laws.specs.First.{Lists, costFrom0, firstPolicy, is-policy}
-use Rattle.accepted.specs.Facts.{accepted}
+use Rattle.accepted.specs.Options.{Option, Alive}
 use Rattle.accepted.specs.Shape.{shape, policy-is}
-use Rattle.masks.specs.Masks.{with}
-use Rattle.masks.proofs.Free.{free-below}
-use Rattle.masks.proofs.Bars.{has-with, with-small, free-all}
+use Rattle.accepted.specs.Demands.{other-byte}
+use Rattle.sets.specs.Sets.{with, free-all}
 use Rattle.splits.specs.Parts.{without, part, split-lt, split-eq, split-gt, Reaches, sound}
 use Rattle.splits.specs.Kbest.{addChild, childrenFrom, childAt, children, child-lists}
 use Rattle.splits.specs.ChildCost.{child-front}
 use Rattle.stored.specs.Entry.{Entry}
-use Rattle.stored.specs.Lists.{left, listsOf, free-without, by-place, lists-before, lists-here, lists-after}
+use Rattle.stored.specs.Lists.{left, left-option, listsOf, free-without, by-place, lists-before, lists-here, lists-after}
 
 -- the first policy of lists of actions
 abbrev pub firstOf : Words → (ℕ → List ℕ) → Policy
@@ -39,10 +38,9 @@ costOf ws bs = costFrom0 (scale ws) (action ws) (togo ws) bs
 
 -- what is stored of a candidate is right: its bytes are the first policy of its lists, with its cost
 pub record Right (ws : Words) (e : Entry) : Type 0 where
-  pub lists : Lists (λ p. p < stateCount ws) (action ws) (listsOf ws e)
+  pub lists : Lists (Alive ws) (action ws) (listsOf ws e)
   pub plan-is : e .plan ≡ firstOf ws (listsOf ws e)
   pub cost-is : e .cost ≡ costOf ws (e .plan)
-  pub mask-small : e .mask < 256
   -- the policies of its lists are the model's
   pub among : (u : Policy) → IsPolicy (action ws) (listsOf ws e) (stateCount ws) 0 (0 ∷ []) u
       → IsPolicy (action ws) (options ws) (stateCount ws) 0 (0 ∷ []) u
@@ -80,18 +78,7 @@ module _ (ws : Words) (ok : bookNumber ws ≡ 0) (e : Entry) (ri : Right ws e) w
   abbrev f : ℕ → ℕ
   f = byteAt (e .plan)
 
-  abbrev act : ℕ → ℕ → Rattle.model.specs.Model.Action
-  act = action ws
-
-  few : (p : ℕ) → p < stateCount ws → actionCount ws p ≤ 8
-  few p h = accepted ws ok .counts-high p h
-
-  -- an action that a set leaves is below 8
-  left-below : (p mask c : ℕ) → p < stateCount ws → In c (left ws p mask) → c < 8
-  left-below p mask c h i = every-in (λ c. c < 8) (left ws p mask) (free-below mask 0 (actionCount ws p) (omega (arith, few p h))) c i
-
   lists-left : (p : ℕ) → e .split ≤ p → listsOf ws e p ≡ left ws p (cond (eqb p (e .split)) (e .mask) 0)
-  unfolding options
   lists-left p h = go (eq-or-lt-of-le h)
     where
       go : (e .split ≡ p) ⊎ (e .split < p) → listsOf ws e p ≡ left ws p (cond (eqb p (e .split)) (e .mask) 0)
@@ -99,36 +86,26 @@ module _ (ws : Words) (ok : bookNumber ws ≡ 0) (e : Entry) (ri : Right ws e) w
           subst (λ (n : ℕ). listsOf ws e n ≡ left ws n (cond (eqb n (e .split)) (e .mask) 0)) q
           (lists-here ws e ∙ sym (ap (λ (b : Bool). left ws (e .split) (cond b (e .mask) 0)) (eq-eqb (e .split) (e .split) refl)))
       go (inr l) =
-          lists-after ws e p l ∙ sym (free-all 0 (actionCount ws p))
+          lists-after ws e p l ∙ sym (free-all (options ws p))
           ∙ sym (ap (λ (b : Bool). left ws p (cond b (e .mask) 0)) (ne-eqb p (e .split) (λ q. omega arith)))
 
-  old-small : (p : ℕ) → cond (eqb p (e .split)) (e .mask) 0 < 256
-  old-small p = go (eqb p (e .split))
-    where
-      go : (b : Bool) → cond b (e .mask) 0 < 256
-      go true = ri .mask-small
-      go false = omega arith
-
   -- what is left when e is split at p: its list there without its own action
-  pub left-is : (p : ℕ) → p < stateCount ws → e .split ≤ p → f p < 8 → left ws p (maskAt e p) ≡ without (f p) (listsOf ws e p)
-  left-is p s h l =
-      let old = cond (eqb p (e .split)) (e .mask) 0 in
-      free-without (maskAt e p) old (f p) 0 (actionCount ws p)
-      (λ d k. has-with old (f p) d (old-small p) l (omega (arith, few p s, k)))
-      ∙ ap (without (f p)) (sym (lists-left p h))
+  pub left-is : (p : ℕ) → e .split ≤ p → left ws p (maskAt e p) ≡ without (f p) (listsOf ws e p)
+  left-is p h =
+      free-without (cond (eqb p (e .split)) (e .mask) 0) (f p) (options ws p) ∙ ap (without (f p)) (sym (lists-left p h))
 
   -- the plan of e is a policy of its lists
   pub plan-policy : IsPolicy (action ws) (listsOf ws e) (stateCount ws) 0 (0 ∷ []) (e .plan)
   plan-policy =
       subst (IsPolicy (action ws) (listsOf ws e) (stateCount ws) 0 (0 ∷ [])) (sym (ri .plan-is))
-      (is-policy (scale ws) (stateCount ws) (action ws) (togo ws) (shape ws ok) (λ p. p < stateCount ws) (listsOf ws e) (ri .lists))
+      (is-policy (scale ws) (stateCount ws) (action ws) (togo ws) (shape ws ok) (Alive ws) (listsOf ws e) (ri .lists))
 
   -- and so of the model
   pub plan-model : isPolicy ws (e .plan) ≡ true
   plan-model = T-true (isPolicy ws (e .plan)) (policy-is ws (e .plan) .1 (ri .among (e .plan) plan-policy))
 
   -- a child at a reached state with an action left
-  module _ (p : ℕ) (state : p < stateCount ws) (from : e .split ≤ p) (small : f p < 8) (reached : Reaches (action ws) p 0 (0 ∷ []) (e .plan))
+  module _ (p : ℕ) (from : e .split ≤ p) (reached : Reaches (action ws) p 0 (0 ∷ []) (e .plan))
       (some : (c : ℕ) × In c (left ws p (maskAt e p))) where
     abbrev child : ℕ → List ℕ
     child = childAt (scale ws) (stateCount ws) (action ws) (togo ws) (listsOf ws e) p
@@ -137,14 +114,14 @@ module _ (ws : Words) (ok : bookNumber ws ≡ 0) (e : Entry) (ri : Right ws e) w
     reached′ = subst (Reaches (action ws) p 0 (0 ∷ [])) (ri .plan-is) reached
 
     some′ : (c : ℕ) × In c (without (byteAt (firstOf ws (listsOf ws e)) p) (listsOf ws e p))
-    some′ = (some .0, subst (λ (bs : Policy). In (some .0) (without (byteAt bs p) (listsOf ws e p))) (ri .plan-is) (subst (In (some .0)) (left-is p state from small) (some .1)))
+    some′ = (some .0, subst (λ (bs : Policy). In (some .0) (without (byteAt bs p) (listsOf ws e p))) (ri .plan-is) (subst (In (some .0)) (left-is p from) (some .1)))
 
     after : (s : ℕ) → p < s → listsOf ws e s ≡ options ws s
     after s h = lists-after ws e s (omega arith)
 
     front : (s : ℕ) → s < p → byteAt (firstOf ws child) s ≡ byteAt (firstOf ws (listsOf ws e)) s
     front s h =
-        child-front (scale ws) (stateCount ws) (action ws) (togo ws) (shape ws ok) (λ p. p < stateCount ws) (options ws) (listsOf ws e) (ri .lists) p after
+        child-front (scale ws) (stateCount ws) (action ws) (togo ws) (shape ws ok) (Alive ws) (options ws) (listsOf ws e) (ri .lists) p after
         reached′ some′ s h
 
     -- its lists are those of the child
@@ -153,7 +130,7 @@ module _ (ws : Words) (ok : bookNumber ws ≡ 0) (e : Entry) (ri : Right ws e) w
         by-place p (listsOf ws (childEntry ws e p)) child
         (λ s h. lists-before ws (childEntry ws e p) s h ∙ ap (λ (b : ℕ). b ∷ []) (front s h)
         ∙ sym (split-lt (byteAt (firstOf ws (listsOf ws e))) p (without (byteAt (firstOf ws (listsOf ws e)) p) (listsOf ws e p)) (listsOf ws e) s h))
-        (lists-here ws (childEntry ws e p) ∙ left-is p state from small
+        (lists-here ws (childEntry ws e p) ∙ left-is p from
         ∙ ap (λ (bs : Policy). without (byteAt bs p) (listsOf ws e p)) (ri .plan-is)
         ∙ sym (split-eq (byteAt (firstOf ws (listsOf ws e))) p (without (byteAt (firstOf ws (listsOf ws e)) p) (listsOf ws e p)) (listsOf ws e)))
         (λ s h. lists-after ws (childEntry ws e p) s h ∙ sym (after s h)
@@ -162,11 +139,10 @@ module _ (ws : Words) (ok : bookNumber ws ≡ 0) (e : Entry) (ri : Right ws e) w
     pub child-right : Right ws (childEntry ws e p)
     child-right =
         record {
-          lists = subst (Lists (λ p. p < stateCount ws) (action ws)) (sym child-is)
-              (child-lists (scale ws) (stateCount ws) (action ws) (togo ws) (shape ws ok) (λ p. p < stateCount ws) (listsOf ws e) (ri .lists) p (some′ .0) (some′ .1));
+          lists = subst (Lists (Alive ws) (action ws)) (sym child-is)
+              (child-lists (scale ws) (stateCount ws) (action ws) (togo ws) (shape ws ok) (Alive ws) (listsOf ws e) (ri .lists) p (some′ .0) (some′ .1));
           plan-is = ap (firstOf ws) (sym child-is);
           cost-is = refl;
-          mask-small = with-small (cond (eqb p (e .split)) (e .mask) 0) (f p) (old-small p) small;
           among = λ u h. ri .among u
               (sound (action ws) (listsOf ws e) (byteAt (firstOf ws (listsOf ws e))) p (stateCount ws) 0 (0 ∷ []) (firstOf ws (listsOf ws e)) u
               (subst (IsPolicy (action ws) (listsOf ws e) (stateCount ws) 0 (0 ∷ [])) (ri .plan-is) plan-policy) (reads (firstOf ws (listsOf ws e))) reached′
@@ -175,16 +151,16 @@ module _ (ws : Words) (ok : bookNumber ws ≡ 0) (e : Entry) (ri : Right ws e) w
 
   -- ---- all children, by the walk through the states
 
-  -- at a state from the split on a byte is 255 exactly where the state is not reached
+  -- at a state of the model from the split on a byte is 255 exactly where the state is not reached
   known : (p g : ℕ) (reach : List ℕ) → p < stateCount ws → e .split ≤ p → In g (Rattle.model.specs.Policy.allowed (listsOf ws e p) (isIn p reach))
-      → (isIn p reach ≡ not (eqb g 255)) × (T (isIn p reach) → g < 8)
+      → isIn p reach ≡ not (eqb g 255)
   known p g reach s h i = go (isIn p reach) i
     where
-      go : (b : Bool) → In g (Rattle.model.specs.Policy.allowed (listsOf ws e p) b) → (b ≡ not (eqb g 255)) × (T b → g < 8)
+      go : (b : Bool) → In g (Rattle.model.specs.Policy.allowed (listsOf ws e p) b) → b ≡ not (eqb g 255)
       go true i =
-          let l = left-below p (cond (eqb p (e .split)) (e .mask) 0) g s (subst (In g) (lists-left p h) i) in
-          (sym (ap not (ne-eqb g 255 (λ q. omega arith))), λ t. l)
-      go false i = (sym (ap not (eq-eqb g 255 (in-one i))), λ t. absurd t)
+          let o = left-option ws p (cond (eqb p (e .split)) (e .mask) 0) g (subst (In g) (lists-left p h) i) in
+          sym (ap not (ne-eqb g 255 (λ q. other-byte ws ok p s (subst (Option ws p) q o))))
+      go false i = sym (ap not (eq-eqb g 255 (in-one i)))
 
   -- before the split nothing is left
   none-before : (p : ℕ) → p < e .split → without (f p) (listsOf ws e p) ≡ []
@@ -238,23 +214,20 @@ module _ (ws : Words) (ok : bookNumber ws ≡ 0) (e : Entry) (ri : Right ws e) w
       go (no l) ih =
           let state : p < stateCount ws = omega arith in
           let from : e .split ≤ p = omega arith in
-          let k = known p g reach state from (h .0) in
-          let same : splitsAt e p ≡ isIn p reach = rw (le-leb (e .split) p from, r .0) (sym (k .0)) in
-          rw same (more state from k (isIn p reach) refl)
+          let same : splitsAt e p ≡ isIn p reach = rw (le-leb (e .split) p from, r .0) (sym (known p g reach state from (h .0))) in
+          rw same (more from (isIn p reach) refl)
         where
-          more : p < stateCount ws → e .split ≤ p → (isIn p reach ≡ not (eqb g 255)) × (T (isIn p reach) → g < 8) → (b : Bool) → isIn p reach ≡ b
+          more : e .split ≤ p → (b : Bool) → isIn p reach ≡ b
               → Both (addIf b (left ws p (maskAt e p)) (childEntry ws e p) rest)
               (addChild b (without (f p) (listsOf ws e p)) (part (listsOf ws e) f p) tail)
-          more state from k false q = ih
-          more state from k true q =
-              let t : T (isIn p reach) = true-T q in
-              let small : f p < 8 = omega (arith, r .0, k .1 t) in
-              let here = lift p (inl (refl, isIn-in p reach t)) in
+          more from false q = ih
+          more from true q =
+              let here = lift p (inl (refl, isIn-in p reach (true-T q))) in
               let ce : (c : ℕ) → In c (left ws p (maskAt e p)) → listsOf ws (childEntry ws e p) ≡ part (listsOf ws e) f p
-              = λ c i. child-is p state from small here (c, i) ∙ ap (λ (bs : Policy). part (listsOf ws e) (byteAt bs) p) (sym (ri .plan-is)) in (
+              = λ c i. child-is p from here (c, i) ∙ ap (λ (bs : Policy). part (listsOf ws e) (byteAt bs) p) (sym (ri .plan-is)) in (
                 add-same true (left ws p (maskAt e p)) (childEntry ws e p) rest (part (listsOf ws e) f p) tail (λ t c i. ce c i) (ih .0)
-                    ∙ ap (λ (xs : List ℕ). addChild true xs (part (listsOf ws e) f p) tail) (left-is p state from small),
-                add-right true (left ws p (maskAt e p)) (childEntry ws e p) rest (λ t c i. child-right p state from small here (c, i)) (ih .1),
+                    ∙ ap (λ (xs : List ℕ). addChild true xs (part (listsOf ws e) f p) tail) (left-is p from),
+                add-right true (left ws p (maskAt e p)) (childEntry ws e p) rest (λ t c i. child-right p from here (c, i)) (ih .1),
               )
 
   -- the stored children of e are right, and stand for the children of its lists

@@ -1,42 +1,28 @@
 -- The bytes and the cost of a child, by the table of action costs and the reach weights of its parent.
 -- Assumes nothing.
-use mathlib.Core.Path.{_≡_, refl, sym, ap, ap₂, _∙_, subst, fun-ext}
+use mathlib.Core.Path.{_≡_, sym, ap, ap₂, _∙_, subst}
 use mathlib.Core.List.{List, [], _∷_}
-use Prim.Native.Nat.{ℕ, zero, suc, _+_, _^_, _≤_, _<_}
+use Prim.Native.Nat.{ℕ, _+_, _≤_, _<_}
 use native.Mathlib.Omega.{arith}
 use lib.IntN.{ℤ, pos, _+ℤ_, _-ℤ_, _*ℤ_}
-use Rattle.model.specs.Model.{Words, scale, stateCount, togo, Action, action, options}
+use Rattle.model.specs.Model.{Words, scale, stateCount, togo, action, options}
 use Rattle.model.specs.Questions.{bookNumber}
 use Rattle.model.specs.Policy.{Policy}
 use Rattle.model.specs.Path.{byteAt}
-use Rattle.model.specs.Recursion.{bestOf, through, leastToGo}
-use Rattle.laws.specs.Members.{In, AtNexts, every-imp}
+use Rattle.model.specs.Recursion.{bestOf, through}
+use Rattle.laws.specs.Members.{In}
+use Rattle.laws.specs.ToGo.{through-same}
+use Rattle.accepted.specs.Options.{Alive}
 use Rattle.accepted.specs.Shape.{shape}
 use Rattle.splits.specs.Parts.{without, split-lt, split-eq, split-gt, Reaches}
 use Rattle.splits.specs.Kbest.{childAt}
-use Rattle.splits.specs.Reach.{reachWeight, expected-same}
+use Rattle.splits.specs.Reach.{reachWeight}
 use Rattle.splits.specs.ChildCost.{child-cost-by}
 use Rattle.stored.specs.Entry.{Entry}
 use Rattle.stored.specs.Lists.{left, listsOf, lists-after}
 use Rattle.stored.specs.Children.{firstOf, costOf, Right, maskAt, childEntry, left-is}
 
--- lists that agree after a state give its actions the same costs
-module _ (D : ℕ) (act : ℕ → ℕ → Action) (os all : ℕ → List ℕ) (later : (p c : ℕ) → AtNexts (λ q. p < q) (act p c .transitions)) where
-  through-same : (m p c : ℕ) → ((s : ℕ) → p < s → os s ≡ all s) → through D act os m p c ≡ through D act all m p c
-  through-same zero p c h = refl
-  through-same (suc m) p c h =
-      ap (λ (z : ℤ). pos (D ^ suc m) *ℤ act p c .cost +ℤ z)
-      (expected-same (leastToGo D act os m) (leastToGo D act all m) (act p c .transitions)
-      (every-imp (λ t l. least (t .next) l (through-same m (t .next))) (act p c .transitions) (later p c)))
-    where
-      least : (q : ℕ) → p < q → ((c : ℕ) → ((s : ℕ) → q < s → os s ≡ all s) → through D act os m q c ≡ through D act all m q c)
-          → leastToGo D act os m q ≡ leastToGo D act all m q
-      least q l ih =
-          let e : through D act os m q ≡ through D act all m q = fun-ext (λ c. ih c (λ s k. h s (omega arith))) in
-          ap₂ (λ (f : ℕ → ℤ) (xs : List ℕ). f (bestOf f xs)) e (h q l)
-
-module _ (ws : Words) (ok : bookNumber ws ≡ 0) (e : Entry) (ri : Right ws e) (p : ℕ) (state : p < stateCount ws) (from : e .split ≤ p)
-    (small : byteAt (e .plan) p < 8) where
+module _ (ws : Words) (ok : bookNumber ws ≡ 0) (e : Entry) (ri : Right ws e) (p : ℕ) (from : e .split ≤ p) where
   abbrev child : ℕ → List ℕ
   child = childAt (scale ws) (stateCount ws) (action ws) (togo ws) (listsOf ws e) p
 
@@ -60,11 +46,10 @@ module _ (ws : Words) (ok : bookNumber ws ≡ 0) (e : Entry) (ri : Right ws e) (
   child-here =
       split-eq own p (without (own p) (listsOf ws e p)) (listsOf ws e)
       ∙ ap (λ (bs : Policy). without (byteAt bs p) (listsOf ws e p)) (sym (ri .plan-is))
-      ∙ sym (left-is ws ok e ri p state from small)
+      ∙ sym (left-is ws ok e ri p from)
 
   rows-same : (s : ℕ) → p ≤ s → through (scale ws) (action ws) child (togo ws s) s ≡ row s
-  rows-same s h =
-      fun-ext (λ c. through-same (scale ws) (action ws) child (options ws) (shape ws ok .later) (togo ws s) s c (λ q k. child-after q (omega arith)))
+  rows-same s h = through-same (scale ws) (action ws) (shape ws ok .later) child (options ws) p child-after (togo ws s) s h
 
   -- the child's first policy takes: its parent's action before p, the next best at p, and first best actions after it
   pub best-before : (s : ℕ) → s < p → bestOf (through (scale ws) (action ws) child (togo ws s) s) (child s) ≡ byteAt (e .plan) s
@@ -82,10 +67,10 @@ module _ (ws : Words) (ok : bookNumber ws ≡ 0) (e : Entry) (ri : Right ws e) (
   pub cost-moves : Reaches (action ws) p 0 (0 ∷ []) (e .plan) → (some : (c : ℕ) × In c (left ws p (maskAt e p)))
       → childEntry ws e p .cost ≡ e .cost +ℤ pos (reachWeight (action ws) (e .plan) p) *ℤ (row p nextAt -ℤ row p (byteAt (e .plan) p))
   cost-moves reached some =
-      child-cost-by (scale ws) (stateCount ws) (action ws) (togo ws) (shape ws ok) (λ p. p < stateCount ws) (options ws) (listsOf ws e) (ri .lists) p after
+      child-cost-by (scale ws) (stateCount ws) (action ws) (togo ws) (shape ws ok) (Alive ws) (options ws) (listsOf ws e) (ri .lists) p after
       (subst (Reaches (action ws) p 0 (0 ∷ [])) (ri .plan-is) reached)
-      (some .0, subst (λ (bs : Policy). In (some .0) (without (byteAt bs p) (listsOf ws e p))) (ri .plan-is) (subst (In (some .0)) (left-is ws ok e ri p state from small) (some .1)))
+      (some .0, subst (λ (bs : Policy). In (some .0) (without (byteAt bs p) (listsOf ws e p))) (ri .plan-is) (subst (In (some .0)) (left-is ws ok e ri p from) (some .1)))
       ∙ ap (λ (bs : Policy). costOf ws bs +ℤ pos (reachWeight (action ws) bs p)
       *ℤ (row p (bestOf (row p) (without (byteAt bs p) (listsOf ws e p))) -ℤ row p (byteAt bs p))) (sym (ri .plan-is))
       ∙ ap₂ (λ (z : ℤ) (xs : List ℕ). z +ℤ pos (reachWeight (action ws) (e .plan) p) *ℤ (row p (bestOf (row p) xs) -ℤ row p (byteAt (e .plan) p)))
-      (sym (ri .cost-is)) (sym (left-is ws ok e ri p state from small))
+      (sym (ri .cost-is)) (sym (left-is ws ok e ri p from))

@@ -4,8 +4,7 @@ use mathlib.Core.Path.{_≡_, refl, sym, ap, ap₂, _∙_, subst}
 use mathlib.Core.Bool.{Bool, true, false, not, _&&_, _||_}
 use mathlib.Core.Logic.{inl, inr}
 use mathlib.Core.List.{List, [], _∷_, map}
-use Prim.Native.Nat.{ℕ, zero, suc, _-_, _<_}
-use native.Mathlib.Omega.{arith}
+use Prim.Native.Nat.{ℕ, zero, suc, _-_}
 use lib.IntN.{ℤ}
 use lib.Signed.{ltZ}
 use lib.ListN.{take}
@@ -19,6 +18,7 @@ use Rattle.laws.specs.Members.{In, Every}
 use Rattle.laws.specs.Sorting.{sorted-same}
 use Rattle.laws.specs.Policies.{IsPolicy}
 use Rattle.laws.specs.First.{Lists}
+use Rattle.accepted.specs.Options.{Alive}
 use Rattle.accepted.specs.Shape.{shape, lists}
 use Rattle.accepted.specs.Demands.{cost-from, policies-are, bestPolicy, in-list}
 use Rattle.splits.specs.Search.{earlier, admit, run}
@@ -128,10 +128,9 @@ module _ (ws : Words) (ok : bookNumber ws ≡ 0) where
   unfolding startEntry
   start-right =
       record {
-        lists = subst (Lists (λ p. p < stateCount ws) (action ws)) (sym start-lists) (lists ws ok);
+        lists = subst (Lists (Alive ws) (action ws)) (sym start-lists) (lists ws ok);
         plan-is = ap (firstOf ws) (sym start-lists);
         cost-is = refl;
-        mask-small = omega arith;
         among = λ u h. subst (λ (os : ℕ → List ℕ). IsPolicy (action ws) os (stateCount ws) 0 (0 ∷ []) u) start-lists h;
       }
 
@@ -144,7 +143,7 @@ module _ (ws : Words) (ok : bookNumber ws ≡ 0) where
   lists-ranking K =
       runs-are K K (startEntry ∷ []) (start-right, tt) .0
       ∙ ap (λ (os : ℕ → List ℕ). run lt (firstOf ws) (children (scale ws) (stateCount ws) (action ws) (togo ws)) K K (os ∷ [])) start-lists
-      ∙ the-best (scale ws) (stateCount ws) (action ws) (togo ws) (shape ws ok) (λ p. p < stateCount ws) (options ws) (lists ws ok) K
+      ∙ the-best (scale ws) (stateCount ws) (action ws) (togo ws) (shape ws ok) (Alive ws) (options ws) (lists ws ok) K
       ∙ sym (ap (take K) (sorted-same (before (policyCost ws)) lt (policies ws)
       (λ x y i j. ap₂ (λ (u v : ℤ). ltZ u v || (not (ltZ v u) && lower x y)) (cost-same x i) (cost-same y j))))
 

@@ -4,7 +4,7 @@ use mathlib.Core.Path.{_≡_, refl, sym, ap, _∙_}
 use mathlib.Core.Bool.{Bool, true, false, not, cond}
 use mathlib.Core.Logic.{inl, inr}
 use mathlib.Core.List.{List, [], _∷_}
-use Prim.Native.Nat.{ℕ, zero, suc, _+_, _-_, _≤_, _<_}
+use Prim.Native.Nat.{ℕ, suc, _+_, _-_, _≤_, _<_}
 use native.Mathlib.Numerals.{add-one}
 use native.Mathlib.Decide.{decLt}
 use native.Mathlib.Omega.{arith}
@@ -15,10 +15,9 @@ use lib.Signed.{leZ, ltZ, leZ-yes, _≤ℤ_, _<ℤ_, <ℤ-≤ℤ-trans, clashℤ
 use Rattle.model.specs.Lists.{upFrom}
 use Rattle.model.specs.Recursion.{pick, firstLeast, bestOf}
 use Rattle.laws.specs.Int.{≤ℤ-trans, leZ-no, <→≤}
-use Rattle.laws.specs.Members.{Every, every-in, true-T, false-T, upFrom-in, in-upFrom}
+use Rattle.laws.specs.Members.{Every, every-in, in-every, true-T, false-T, upFrom-in, in-upFrom}
 use Rattle.laws.specs.Best.{best-in}
-use Rattle.masks.specs.Masks.{has, free}
-use Rattle.masks.proofs.Free.{free-below}
+use Rattle.sets.specs.Sets.{has, free, free-in}
 use Rattle.table.specs.Table.{Chosen, better}
 
 -- one test of two costs is the other's negation
@@ -45,9 +44,6 @@ module _ (f : ℕ → ℤ) where
   pick-below : (b : Bool) (x y : ℕ) → x < 8 → y < 8 → pick b x y < 8
   pick-below true x y h k = h
   pick-below false x y h k = k
-
-  pub none-left : (y : ℕ) → better f 255 y ≡ y
-  none-left y = refl
 
   pub none-right : (x : ℕ) → Chosen x → better f x 255 ≡ x
   none-right x (inl e) = rw e
@@ -93,32 +89,36 @@ module _ (f : ℕ → ℤ) where
   best-cons x (y ∷ ys) h k =
       sym (two x (firstLeast f y ys) h (every-in (λ c. c < 8) (y ∷ ys) k (firstLeast f y ys) (best-in f (y ∷ ys) y (inl refl))))
 
--- one action from the front
-pub free-step : (mask c n : ℕ) → c < n
-    → free mask c (n - c) ≡ cond (has mask c) (free mask (c + 1) (n - (c + 1))) (c ∷ free mask (c + 1) (n - (c + 1)))
-free-step mask c n h = let e : n - c ≡ suc (n - (c + 1)) = omega arith in rw (e, add-one c)
+-- what a set leaves of the actions from c on, of n
+abbrev pub rest : ℕ → ℕ → ℕ → List ℕ
+rest mask c n = free mask (upFrom c (n - c))
 
-pub free-end : (mask c n : ℕ) → n ≤ c → free mask c (n - c) ≡ []
-free-end mask c n h = let e : n - c ≡ 0 = omega arith in rw e
+rest-below : (mask c n : ℕ) → c < n → n ≤ 8 → Every (λ d. d < 8) (rest mask (c + 1) n)
+rest-below mask c n h k =
+    in-every (λ d. d < 8) (rest mask (c + 1) n)
+    (λ d i. omega (arith, upFrom-in (c + 1) (n - (c + 1)) (free-in mask d (upFrom (c + 1) (n - (c + 1))) i)))
+
+-- one action from the front
+rest-step : (mask c n : ℕ) → c < n → rest mask c n ≡ cond (has mask c) (rest mask (c + 1) n) (c ∷ rest mask (c + 1) n)
+rest-step mask c n h = let e : n - c ≡ suc (n - (c + 1)) = omega arith in rw (e, add-one c)
+
+pub rest-end : (mask c n : ℕ) → n ≤ c → rest mask c n ≡ []
+rest-end mask c n h = let e : n - c ≡ 0 = omega arith in rw e
 
 -- the loop's step
 pub best-step : (f : ℕ → ℤ) (mask c n best : ℕ) → c < n → n ≤ 8 → Chosen best
-    → better f best (bestOf f (free mask c (n - c)))
-    ≡ better f (cond (has mask c) best (better f best c)) (bestOf f (free mask (c + 1) (n - (c + 1))))
-best-step f mask c n best h k b = rw (free-step mask c n h) (go (has mask c))
+    → better f best (bestOf f (rest mask c n)) ≡ better f (cond (has mask c) best (better f best c)) (bestOf f (rest mask (c + 1) n))
+best-step f mask c n best h k b = rw (rest-step mask c n h) (go (has mask c))
   where
-    rest : List ℕ
-    rest = free mask (c + 1) (n - (c + 1))
+    small : Every (λ c. c < 8) (rest mask (c + 1) n)
+    small = rest-below mask c n h k
 
-    small : Every (λ c. c < 8) (free mask (c + 1) (n - (c + 1)))
-    small = free-below mask (c + 1) (n - (c + 1)) (omega arith)
-
-    go : (t : Bool) → better f best (bestOf f (cond t (free mask (c + 1) (n - (c + 1))) (c ∷ free mask (c + 1) (n - (c + 1)))))
-        ≡ better f (cond t best (better f best c)) (bestOf f (free mask (c + 1) (n - (c + 1))))
+    go : (t : Bool) → better f best (bestOf f (cond t (rest mask (c + 1) n) (c ∷ rest mask (c + 1) n)))
+        ≡ better f (cond t best (better f best c)) (bestOf f (rest mask (c + 1) n))
     go true = refl
     go false =
-        ap (better f best) (best-cons f c (free mask (c + 1) (n - (c + 1))) (omega arith) small)
-        ∙ sym (better-assoc f best c (bestOf f (free mask (c + 1) (n - (c + 1)))) b (inr (omega arith)) (best-chosen f (free mask (c + 1) (n - (c + 1))) small))
+        ap (better f best) (best-cons f c (rest mask (c + 1) n) (omega arith) small)
+        ∙ sym (better-assoc f best c (bestOf f (rest mask (c + 1) n)) b (inr (omega arith)) (best-chosen f (rest mask (c + 1) n) small))
 
 pub chosen-step : (f : ℕ → ℤ) (t : Bool) (best c : ℕ) → Chosen best → c < 8 → Chosen (cond t best (better f best c))
 chosen-step f true best c h k = h

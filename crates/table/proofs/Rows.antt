@@ -13,14 +13,15 @@ use Rattle.model.specs.Lists.{upFrom}
 use Rattle.model.specs.Model.{Words, scale, stateCount, togo, actionCount, action, options}
 use Rattle.model.specs.Questions.{bookNumber}
 use Rattle.model.specs.Recursion.{actionCost, bestOf, through, leastToGo}
-use Rattle.laws.specs.Members.{in-every, upFrom-in}
+use Rattle.laws.specs.Members.{in-every}
+use Rattle.laws.specs.Best.{best-in}
 use Rattle.accepted.specs.Facts.{accepted}
-use Rattle.masks.specs.Masks.{free}
-use Rattle.masks.proofs.Bars.{free-all}
+use Rattle.accepted.specs.Options.{Option, Alive, options-are, option-below, option-small}
+use Rattle.accepted.specs.Shape.{lists}
 use Rattle.costs.specs.Terms.{valueAt}
 use Rattle.costs.proofs.ToGo.{through-step, by-array, holds-more}
 use Rattle.table.specs.Table.{rowOf, FilledTo, Filled, TableFrom}
-use Rattle.table.proofs.Better.{best-same, best-below}
+use Rattle.table.proofs.Better.{best-same}
 
 pub filled-none : (ws : Words) (p : ℕ) (v q : List ℤ) → length q ≡ 512 → FilledTo ws p 0 v q q
 filled-none ws p v q l = record { long = l; row = λ c h. absurd (omega arith); other = λ s c n h. refl }
@@ -54,31 +55,33 @@ module _ (ws : Words) (ok : bookNumber ws ≡ 0) (p : ℕ) (hp : p < stateCount 
   abbrev least : ℕ → ℤ
   least s = leastToGo (scale ws) (action ws) (options ws) (togo ws s) s
 
-  -- the row has the costs of the state's actions
-  row-is : (c : ℕ) → c < actionCount ws p → rowOf r p c ≡ through (scale ws) (action ws) (options ws) (togo ws p) p c
-  row-is c h = f .row c h ∙ by-array ws ok least p c v (λ s a b. t .least-is s a b) ∙ sym (through-step ws ok p c)
+  abbrev cost : ℕ → ℕ → ℤ
+  cost s = through (scale ws) (action ws) (options ws) (togo ws s) s
+
+  -- the row has the costs of the state's options
+  row-is : (c : ℕ) → Option ws p c → rowOf r p c ≡ cost p c
+  row-is c o =
+      f .row c (option-below ws p o)
+      ∙ by-array ws ok (Alive ws) least p c v (lists ws ok .stays-alive p c (record { state = hp; some = (c, o) }) o) (λ s a b. t .least-is s a b)
+      ∙ sym (through-step ws ok p c)
 
   -- and its best entry is the least cost-to-go
-  pub row-least : rowOf r p (bestOf (rowOf r p) (free 0 0 (actionCount ws p))) ≡ least p
-  unfolding options
-  row-least =
-      let n = actionCount ws p in
-      let e : bestOf (rowOf r p) (free 0 0 n) ≡ bestOf (through (scale ws) (action ws) (options ws) (togo ws p) p) (upFrom 0 n)
-      = ap (bestOf (rowOf r p)) (free-all 0 n)
-      ∙ best-same (rowOf r p) (through (scale ws) (action ws) (options ws) (togo ws p) p) (upFrom 0 n)
-      (in-every (λ c. rowOf r p c ≡ through (scale ws) (action ws) (options ws) (togo ws p) p c) (upFrom 0 n) (λ c i. row-is c (omega (arith, upFrom-in 0 n i)))) in
-      ap (rowOf r p) e ∙ row-is (bestOf (through (scale ws) (action ws) (options ws) (togo ws p) p) (upFrom 0 n)) (best-below (through (scale ws) (action ws) (options ws) (togo ws p) p) n (accepted ws ok .counts-low p hp))
+  pub row-least : Alive ws p → rowOf r p (bestOf (rowOf r p) (upFrom 0 (actionCount ws p))) ≡ least p
+  row-least a =
+      let e : bestOf (rowOf r p) (upFrom 0 (actionCount ws p)) ≡ bestOf (cost p) (options ws p)
+      = ap (bestOf (rowOf r p)) (sym (options-are ws p))
+      ∙ best-same (rowOf r p) (cost p) (options ws p) (in-every (λ c. rowOf r p c ≡ cost p c) (options ws p) row-is) in
+      ap (rowOf r p) e ∙ row-is (bestOf (cost p) (options ws p)) (best-in (cost p) (options ws p) (a .some .0) (a .some .1))
 
-  pub table-more : (y : ℤ) → y ≡ least p → TableFrom ws p r (set v p y)
+  pub table-more : (y : ℤ) → (Alive ws p → y ≡ least p) → TableFrom ws p r (set v p y)
   table-more y e =
       record {
         rows = f .long;
         long = length-set v p y ∙ t .long;
-        through-is = λ s c a b h. row s c (eq-or-lt-of-le a) b h;
-        least-is = holds-more ws ok least p v y (omega (arith, t .long, accepted ws ok .sizes .s-high)) e (λ s a b. t .least-is s a b);
+        through-is = λ s c a b o. row s c (eq-or-lt-of-le a) b o;
+        least-is = holds-more ws ok (Alive ws) least p v y (omega (arith, t .long, accepted ws ok .sizes .s-high)) e (λ s a b. t .least-is s a b);
       }
     where
-      row : (s c : ℕ) → (p ≡ s) ⊎ (p < s) → s < stateCount ws → c < actionCount ws s → rowOf r s c ≡ through (scale ws) (action ws) (options ws) (togo ws s) s c
-      row s c (inl k) b h = subst (λ (n : ℕ). c < actionCount ws n → rowOf r n c ≡ through (scale ws) (action ws) (options ws) (togo ws n) n c) k (row-is c) h
-      row s c (inr k) b h =
-          f .other s c (λ z. omega arith) (omega (arith, h, accepted ws ok .counts-high s b)) ∙ t .through-is s c (omega arith) b h
+      row : (s c : ℕ) → (p ≡ s) ⊎ (p < s) → s < stateCount ws → Option ws s c → rowOf r s c ≡ cost s c
+      row s c (inl k) b o = subst (λ (n : ℕ). Option ws n c → rowOf r n c ≡ cost n c) k (row-is c) o
+      row s c (inr k) b o = f .other s c (λ z. omega arith) (option-small ws ok s b o) ∙ t .through-is s c (omega arith) b o

@@ -11,6 +11,7 @@ use lib.Dec.{eqb}
 use lib.ListN.{length, getD}
 use Rattle.model.specs.Model.{Words, scale, stateCount, togo, actionCount, action, options}
 use Rattle.model.specs.Recursion.{actionCost, pick, through, leastToGo}
+use Rattle.accepted.specs.Options.{Option, Alive}
 use Rattle.costs.specs.Terms.{valueAt}
 
 -- an action number, or 255 for none
@@ -38,9 +39,9 @@ Filled ws p v q r = FilledTo ws p (actionCount ws p) v q r
 pub record TableFrom (ws : Words) (n : ℕ) (q v : List ℤ) : Type 0 where
   pub rows : length q ≡ 512
   pub long : length v ≡ 64
-  pub through-is : (p c : ℕ) → n ≤ p → p < stateCount ws → c < actionCount ws p
+  pub through-is : (p c : ℕ) → n ≤ p → p < stateCount ws → Option ws p c
       → rowOf q p c ≡ through (scale ws) (action ws) (options ws) (togo ws p) p c
-  pub least-is : (p : ℕ) → n ≤ p → p < stateCount ws → valueAt v p ≡ leastToGo (scale ws) (action ws) (options ws) (togo ws p) p
+  pub least-is : (p : ℕ) → n ≤ p → Alive ws p → valueAt v p ≡ leastToGo (scale ws) (action ws) (options ws) (togo ws p) p
 
 abbrev pub TableOf : Words → List ℤ → List ℤ → Type 0
 TableOf ws q v = TableFrom ws 0 q v

@@ -6,12 +6,13 @@ ghost use Prim.Native.Nat.{_+_, _*_, _<_, _≤_};
 ghost use lib.IntN.{pos};
 ghost use lib.Signed.{ltZ};
 ghost use lib.ListN.{length, getD};
+ghost use Rattle.model.specs.Lists.{upFrom};
 ghost use Rattle.model.specs.Model.{stateCount};
 ghost use Rattle.model.specs.Questions.{bookNumber};
 ghost use Rattle.model.specs.Recursion.{bestOf};
 ghost use Rattle.book.specs.Read.{SizesAre};
 ghost use Rattle.index.specs.Index.{IndexOf};
-ghost use Rattle.masks.specs.Masks.{has, free};
+ghost use Rattle.sets.specs.Sets.{has, free};
 ghost use Rattle.costs.specs.Terms.{Bounded};
 ghost use Rattle.table.specs.Table.{Chosen, better, rowOf, Filled, TableOf};
 
@@ -34,7 +35,7 @@ fn best_of_two(q: &[i64; 512], p: usize, best: usize, c: usize, mask: u8) -> usi
     requires { ⌜ (p < 64) × (c < 8) × Chosen best ⌝ }
     ensures { λ r. ⌜ r ≡ cond (has mask c) best (better (rowOf (now (q .entry)) p) best c) ⌝ }
 {
-    if masks::barred(mask, c as u8) {
+    if sets::has8(mask, c as u8) {
         return best;
     }
     if best == 255 {
@@ -49,7 +50,7 @@ fn best_of_two(q: &[i64; 512], p: usize, best: usize, c: usize, mask: u8) -> usi
 // The first best action of state p among the first n that are not in the set `mask`; 255 where there is none.
 pub fn best_action(q: &[i64; 512], p: usize, n: usize, mask: u8) -> usize
     requires { ⌜ (p < 64) × (n ≤ 8) ⌝ }
-    ensures { λ r. ⌜ r ≡ bestOf (rowOf (now (q .entry)) p) (free mask 0 n) ⌝ }
+    ensures { λ r. ⌜ r ≡ bestOf (rowOf (now (q .entry)) p) (free mask (upFrom 0 n)) ⌝ }
 {
     let mut best: usize = 255;
     let mut c: usize = 0;
@@ -92,7 +93,7 @@ pub fn zeros() -> [i64; 64]
 // The entry of the best action of state p.
 fn least_of_row(q: &[i64; 512], p: usize, n: usize) -> i64
     requires { ⌜ (p < 64) × (1 ≤ n) × (n ≤ 8) ⌝ }
-    ensures { λ r. ⌜ r ≡ rowOf (now (q .entry)) p (bestOf (rowOf (now (q .entry)) p) (free 0 0 n)) ⌝ }
+    ensures { λ r. ⌜ r ≡ rowOf (now (q .entry)) p (bestOf (rowOf (now (q .entry)) p) (upFrom 0 n)) ⌝ }
 {
     let best = best_action(q, p, n, 0);
     q[8 * p + best]

@@ -8,7 +8,7 @@ use lib.ListN.{set, replicate}
 use Rattle.model.specs.Lists.{forEach}
 use Rattle.model.specs.Bytes.{bytes, signedBytes}
 use Rattle.model.specs.Model.{Words, word, scale, horizon, lineCount, stageSize, firstState, stateCount, stage, togo, actionCount, left, right, branches, lineAfter, skip, stateLine, actionLine, transitionAt, readAction, action, options}
-use Rattle.model.specs.Questions.{firstNo, sizesAllowed, lengthAllowed, mostActions, countsAllowed, everyAction, branchesAllowed, linesAllowed, costAllowed, nextsAllowed, weightSum, weightsAllowed, largestCost, costsBounded, bookNumber}
+use Rattle.model.specs.Questions.{firstNo, sizesAllowed, lengthAllowed, countAllowed, countsAllowed, everyAction, branchesAllowed, linesAllowed, costAllowed, nextsAllowed, weightSum, weightsAllowed, largestCost, costsBounded, bookNumber}
 use Rattle.model.specs.Policy.{isPolicy, policies}
 use Rattle.model.specs.Path.{taken, paths, policyCost}
 use Rattle.model.specs.Recursion.{leastCostToGo}
@@ -126,5 +126,5 @@ tours =
     ∷ []
 
 pub yield : map (λ (t : Tour). answer (t .call)) tours ≡ map (λ (t : Tour). t .due) tours
-unfolding word scale horizon lineCount stageSize firstState stateCount stage togo actionCount left right branches lineAfter skip stateLine actionLine transitionAt readAction action options firstNo sizesAllowed lengthAllowed mostActions countsAllowed everyAction branchesAllowed linesAllowed costAllowed nextsAllowed weightSum weightsAllowed largestCost costsBounded bookNumber isPolicy policies taken paths policyCost leastCostToGo comesBefore ranking rankingCosts listBytes recordBytes carriedLength carriedK carriedCount carriedBook listStart askedNumber acceptNumber decimal policyLine policyLines titleLine bookPage page valueNumber valueCost leastCost rankNumber rankCount rankCosts rankPlans writeNumber writeLength writeRecord acceptStates acceptCount
+unfolding word scale horizon lineCount stageSize firstState stateCount stage togo actionCount left right branches lineAfter skip stateLine actionLine transitionAt readAction action options firstNo sizesAllowed lengthAllowed countAllowed countsAllowed everyAction branchesAllowed linesAllowed costAllowed nextsAllowed weightSum weightsAllowed largestCost costsBounded bookNumber isPolicy policies taken paths policyCost leastCostToGo comesBefore ranking rankingCosts listBytes recordBytes carriedLength carriedK carriedCount carriedBook listStart askedNumber acceptNumber decimal policyLine policyLines titleLine bookPage page valueNumber valueCost leastCost rankNumber rankCount rankCosts rankPlans writeNumber writeLength writeRecord acceptStates acceptCount
 yield = refl

@@ -19,15 +19,15 @@ ws s = s .args .b .now
 
 -- r, as it was read
 r-is : (c : tie.After-size-at) →
-    c .size-at .result ≡ branches (ws (c .before .before .before .before .before .before)) (c .before .before .before .before .before .before .args .j)
+    c .size-at .result ≡ branches (ws (c .before .before .before .before .before)) (c .before .before .before .before .before .args .j)
 r-is c =
-    let s = c .before .before .before .before .before .before in
+    let s = c .before .before .before .before .before in
     branches-are (ws s) (s .args .z) (s .pre .1) (s .args .j) (c .size-at .result) (c .size-at .ensures .is)
 
 -- past question 9
 module _ (c : tie.Else3) where
   abbrev s : tie.Start
-  s = c .before .before .before .before .before .before .before
+  s = c .before .before .before .before .before .before
 
   bound : lineAfter (ws s) (s .args .j) ≤ lineCount (ws s)
   unfolding lineAfter
@@ -41,10 +41,10 @@ module _ (c : tie.Else3) where
       bound
 
 -- question 10
-cost : (c : tie.After-word-in) → costAllowed (ws (s (c .before))) (s (c .before) .args .n) (s (c .before) .args .j) ≡ c .word-in .result
+cost : (c : tie.After-cost-allowed) → costAllowed (ws (s (c .before))) (s (c .before) .args .n) (s (c .before) .args .j) ≡ c .cost-allowed .result
 cost c =
     let t = s (c .before) in
-    cost-is (ws t) (t .args .z) (t .pre .1) (t .args .j) (t .args .n) ∙ sym (c .word-in .ensures)
+    cost-is (ws t) (t .args .z) (t .pre .1) (t .args .j) (t .args .n) ∙ sym (c .cost-allowed .ensures)
 
 cost-yes : (c : tie.Else4) → costAllowed (ws (s (c .before .before))) (s (c .before .before) .args .n) (s (c .before .before) .args .j) ≡ true
 cost-yes c = cost (c .before) ∙ not-false _ (c .if4 .left)
@@ -58,18 +58,12 @@ returns c =
 add-at : tie.Need-add-at
 add-at c = search needs
 
-add-at-2 : tie.Need-add-at-2
-add-at-2 c = search needs
-
-add-at-3 : tie.Need-add-at-3
-add-at-3 c = search needs
-
 branches-allowed-requires : tie.Need-branches-allowed-requires
 branches-allowed-requires c κs = search needs
 
 returns-2 : tie.Need-returns-2
 returns-2 c =
-    let s = c .before .before .before .before .before in
+    let s = c .before .before .before .before in
     nine (ws s) (s .args .n) (s .args .j) (unbranched (ws s) (s .args .n) (s .args .j) (inside-is (ws s) (s .args .z) (s .pre .1) (s .args .j) (s .args .n) ∙ no (c .before .branches-allowed .ensures) (c .if2 .taken)))
 
 add-if3 : tie.Need-add-if3
@@ -84,46 +78,46 @@ add-if3-2 c = search needs
 returns-3 : tie.Need-returns-3
 unfolding lineAfter
 returns-3 c =
-    let s = c .before .before .before .before .before .before .before in
+    let s = c .before .before .before .before .before .before in
     nine (ws s) (s .args .n) (s .args .j) (unfit (ws s) (s .args .n) (s .args .j) (omega (arith, r-is (c .before))))
 
-add-word-in : tie.Need-add-word-in
-add-word-in c = search needs
+add-cost-allowed : tie.Need-add-cost-allowed
+add-cost-allowed c = search needs
 
-word-in-requires : tie.Need-word-in-requires
-word-in-requires c κs = search needs
+cost-allowed-requires : tie.Need-cost-allowed-requires
+cost-allowed-requires c κs = search needs
 
 returns-4 : tie.Need-returns-4
 returns-4 c =
-    let s = c .before .before .before .before .before .before .before .before .before in
+    let s = c .before .before .before .before .before .before .before .before in
     ten (ws s) (s .args .n) (s .args .j) (fit (c .before .before)) (cost (c .before) ∙ not-true _ (c .if4 .taken))
 
 nexts-allowed-requires : tie.Need-nexts-allowed-requires
 nexts-allowed-requires c κs =
-    let s = c .before .before .before .before .before .before .before .before .before in
+    let s = c .before .before .before .before .before .before .before .before in
     (s .pre .0, s .pre .1, s .pre .2, bound (c .before .before))
 
 returns-5 : tie.Need-returns-5
 returns-5 c =
-    let s = c .before .before .before .before .before .before .before .before .before .before .before in
+    let s = c .before .before .before .before .before .before .before .before .before .before in
     eleven (ws s) (s .args .n) (s .args .j) (fit (c .before .before .before .before)) (cost-yes (c .before .before)) (no (c .before .nexts-allowed .ensures) (c .if5 .taken))
 
 weights-allowed-requires : tie.Need-weights-allowed-requires
 weights-allowed-requires c κs =
-    let s = c .before .before .before .before .before .before .before .before .before .before .before in
+    let s = c .before .before .before .before .before .before .before .before .before .before in
     (s .pre .0, s .pre .1, bound (c .before .before .before .before))
 
 returns-6 : tie.Need-returns-6
 returns-6 c =
     let d = c .before .before .before .before in
-    let s = d .before .before .before .before .before .before .before .before .before in
+    let s = d .before .before .before .before .before .before .before .before in
     twelve (ws s) (s .args .n) (s .args .j) (fit (d .before .before)) (cost-yes d) (yes′ (c .before .before .before .nexts-allowed .ensures) (c .before .before .if5 .left))
     (no (c .before .weights-allowed .ensures) (c .if6 .taken))
 
 returns-7 : tie.Need-returns-7
 returns-7 c =
     let d = c .before .before .before .before in
-    let s = d .before .before .before .before .before .before .before .before .before in
+    let s = d .before .before .before .before .before .before .before .before in
     zero-all (ws s) (s .args .n) (s .args .j) (fit (d .before .before)) (cost-yes d) (yes′ (c .before .before .before .nexts-allowed .ensures) (c .before .before .if5 .left))
     (yes′ (c .before .weights-allowed .ensures) (c .if6 .left))
 
@@ -133,16 +127,14 @@ action-number-spec =
     (tie.spec
     returns
     add-at
-    add-at-2
-    add-at-3
     branches-allowed-requires
     returns-2
     add-if3
     size-at-requires
     add-if3-2
     returns-3
-    add-word-in
-    word-in-requires
+    add-cost-allowed
+    cost-allowed-requires
     returns-4
     nexts-allowed-requires
     returns-5

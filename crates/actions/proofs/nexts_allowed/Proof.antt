@@ -10,14 +10,8 @@ use Rattle.actions.proofs.nexts_allowed.Statement.{statement}
 use Rattle.actions.proofs.nexts_allowed.Tie as tie
 
 add-at : tie.Need-add-at
-add-at c = search needs
-
-add-at-2 : tie.Need-add-at-2
-add-at-2 c = search needs
-
-add-at-3 : tie.Need-add-at-3
 unfolding lineAfter
-add-at-3 c = omega arith
+add-at c = omega arith
 
 size-at-requires : tie.Need-size-at-requires
 unfolding lineAfter
@@ -29,9 +23,9 @@ add-size-at c = search needs
 size-at-requires-2 : tie.Need-size-at-requires-2
 size-at-requires-2 c κs = search needs
 
-r-is : (c : tie.After-size-at) → c .size-at .result ≡ branches (c .before .before .before .args .b .now) (c .before .before .before .args .j)
+r-is : (c : tie.After-size-at) → c .size-at .result ≡ branches (c .before .before .args .b .now) (c .before .before .args .j)
 r-is c =
-    let s = c .before .before .before in
+    let s = c .before .before in
     branches-are (s .args .b .now) (s .args .z) (s .pre .1) (s .args .j) (c .size-at .result) (c .size-at .ensures .is)
 
 add-nexts-rise : tie.Need-add-nexts-rise
@@ -44,7 +38,7 @@ nexts-rise-requires c κs = omega (arith, r-is (c .before))
 
 returns : tie.Need-returns
 returns c =
-    let s = c .before .before .before .before .before in
+    let s = c .before .before .before .before in
     c .nexts-rise .ensures
     ∙ nexts-are (s .args .b .now) (s .args .z) (s .pre .1) (s .args .n) (s .args .j) _ _ _ refl (r-is (c .before .before))
     (size-is (s .args .b .now) (s .args .z) (s .pre .1) (s .args .j) (s .args .n) _ (c .before .size-at2 .ensures .is))
@@ -54,8 +48,6 @@ nexts-allowed-spec =
     tie.close
     (tie.spec
     add-at
-    add-at-2
-    add-at-3
     size-at-requires
     add-size-at
     size-at-requires-2

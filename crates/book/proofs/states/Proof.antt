@@ -48,8 +48,10 @@ loop-again c =
 returns : tie.Need-returns Inv-loop μ-loop
 unfolding stateCount
 returns c =
-    let e : c .before .loop .n ≡ c .before .before .args .h + 1 = omega arith in
-    c .before .loop .inv .1 ∙ ap (firstState (c .before .before .args .b .now)) (e ∙ ap (λ n. n + 1) (c .before .before .pre .0))
+    let e : c .before .loop .n ≡ c .before .before .args .h + 1 = omega arith in (
+      c .before .loop .inv .1 ∙ ap (firstState (c .before .before .args .b .now)) (e ∙ ap (λ n. n + 1) (c .before .before .pre .0)),
+      omega (arith, c .before .loop .inv .2),
+    )
 
 pub states-spec : {M : Type 1} → statement M
 states-spec =

@@ -3,9 +3,10 @@
 use mathlib.Core.Path.{_≡_, ap, _∙_, subst}
 use Prim.Native.Nat.{_-_, _≤_}
 use native.Mathlib.Omega.{arith}
+use Rattle.model.specs.Lists.{upFrom}
 use Rattle.model.specs.Model.{stateCount}
 use Rattle.model.specs.Recursion.{bestOf}
-use Rattle.masks.specs.Masks.{free}
+use Rattle.sets.specs.Sets.{free}
 use Rattle.accepted.specs.Facts.{accepted}
 use Rattle.table.specs.Table.{rowOf}
 use Rattle.build.specs.Best.{BestTo}
@@ -60,7 +61,7 @@ loop-again c =
       l .loop .inv .0,
       omega arith,
       best-more ws p (c .best-action .result) (l .loop .best) (omega arith) (l .loop .inv .2)
-          (c .best-action .ensures ∙ ap (λ n. bestOf (rowOf q p) (free 0 0 n)) (c .before .count .ensures)
+          (c .best-action .ensures ∙ ap (λ n. bestOf (rowOf q p) (free 0 (upFrom 0 n))) (c .before .count .ensures)
           ∙ row-best ws p q (s .pre .2) (omega arith)),
     )
 

@@ -9,8 +9,10 @@ use Rattle.model.specs.Model.{Words, actionCount, action}
 use Rattle.model.specs.Policy.{Policy, nexts, onward}
 use Rattle.model.specs.Path.{byteAt}
 use Rattle.accepted.specs.Facts.{accepted}
-use Rattle.sets.specs.Sets.{SetOf, set-both}
-use Rattle.build.proofs.Prefix.{passed-more, passed-bare, byte-there}
+use Rattle.accepted.specs.Options.{Option, option-below}
+use Rattle.accepted.specs.Bytes.{byte-is}
+use Rattle.sets.specs.Sets.{SetOf, set-union}
+use Rattle.build.proofs.Prefix.{passed-more, passed-bare}
 use borrow.Author.Needs.{needs}
 use Rattle.build.proofs.pass_state.Statement.{statement}
 use Rattle.build.proofs.pass_state.Tie as tie
@@ -22,7 +24,7 @@ abbrev bs : tie.Start → Policy
 bs s = s .args .plan .now
 
 there : (s : tie.Start) → getD (bs s) (s .args .s) 0 ≡ byteAt (bs s) (s .args .s)
-there s = byte-there (bs s) (s .args .s) (s .pre .3 .0)
+there s = byte-is (bs s) (s .args .s) 0 255 (s .pre .3 .0)
 
 shared-slice-read-a : tie.Need-shared-slice-read-a
 shared-slice-read-a c = c .before .before .pre .3 .0
@@ -43,9 +45,9 @@ module _ (c : tie.Else1) where
   below : getD (bs s) (s .args .s) 0 < actionCount (ws s) (s .args .s)
   below = go (s .pre .3 .1)
     where
-      go : (byteAt (bs s) (s .args .s) ≡ 255) ⊎ (byteAt (bs s) (s .args .s) < actionCount (ws s) (s .args .s)) → getD (bs s) (s .args .s) 0 < actionCount (ws s) (s .args .s)
+      go : (byteAt (bs s) (s .args .s) ≡ 255) ⊎ Option (ws s) (s .args .s) (byteAt (bs s) (s .args .s)) → getD (bs s) (s .args .s) 0 < actionCount (ws s) (s .args .s)
       go (inl e) = absurd (c .if1 .left (there s ∙ e))
-      go (inr l) = subst (λ (a : ℕ). a < actionCount (ws s) (s .args .s)) (sym (there s)) l
+      go (inr o) = subst (λ (a : ℕ). a < actionCount (ws s) (s .args .s)) (sym (there s)) (option-below (ws s) (s .args .s) o)
 
   small : (getD (bs s) (s .args .s) 0 < 8) × (s .args .s < 64)
   small = (
@@ -65,8 +67,8 @@ mul-more-2 c = omega (arith, small c)
 element-copy-out-more : tie.Need-element-copy-out-more
 element-copy-out-more c = omega (arith, small c)
 
-join-requires : tie.Need-join-requires
-join-requires c κs = search needs
+union64-requires : tie.Need-union64-requires
+union64-requires c κs = search needs
 
 returns-2 : tie.Need-returns-2
 returns-2 c =
@@ -77,9 +79,9 @@ returns-2 c =
     let on : SetOf more (nexts (action (ws s) (s .args .s) (byteAt (bs s) (s .args .s)) .transitions)) =
     subst (λ (a : ℕ). SetOf more (nexts (action (ws s) (s .args .s) a .transitions))) (there s)
     (s .pre .1 .at (s .args .s) (getD (bs s) (s .args .s) 0) (s .pre .2) (below e)) in
-    passed-more (ws s) (bs s) (s .pre .0) (s .args .s) (s .pre .2) (s .args .reach) (s .pre .4) (c .join .result)
-    (subst (λ (m : ℕ). SetOf m (onward (action (ws s)) (s .args .s) (byteAt (bs s) (s .args .s)) (h .reach))) (sym (c .join .ensures))
-    (set-both more (s .args .reach) _ (h .reach) on (h .set-is)))
+    passed-more (ws s) (bs s) (s .pre .0) (s .args .s) (s .pre .2) (s .args .reach) (s .pre .4) (c .union64 .result)
+    (subst (λ (m : ℕ). SetOf m (onward (action (ws s)) (s .args .s) (byteAt (bs s) (s .args .s)) (h .reach))) (sym (c .union64 .ensures))
+    (set-union more (s .args .reach) _ (h .reach) on (h .set-is)))
 
 pub pass-state-spec : {M : Type 1} → statement M
 pass-state-spec =
@@ -92,5 +94,5 @@ pass-state-spec =
     add-more
     mul-more-2
     element-copy-out-more
-    join-requires
+    union64-requires
     returns-2)

@@ -11,30 +11,24 @@ use Rattle.check_book.proofs.advance.Statement.{statement}
 use Rattle.check_book.proofs.advance.Tie as tie
 
 add-at : tie.Need-add-at
-add-at c = search needs
-
-add-at-2 : tie.Need-add-at-2
-add-at-2 c = search needs
-
-add-at-3 : tie.Need-add-at-3
 unfolding lineAfter
-add-at-3 c = omega arith
+add-at c = omega arith
 
 lower-requires : tie.Need-lower-requires
 lower-requires c κs = search needs
 
-add-t7 : tie.Need-add-t7
+add-t8 : tie.Need-add-t8
 unfolding lineAfter
-add-t7 c = omega arith
+add-t8 c = omega arith
 
 size-at-requires : tie.Need-size-at-requires
 unfolding lineAfter
 size-at-requires c κs = omega arith
 
 r-is : (c : tie.After-size-at) →
-    c .size-at .result ≡ branches (c .before .before .before .before .args .b .now) (c .before .before .before .before .args .w .at)
+    c .size-at .result ≡ branches (c .before .before .before .args .b .now) (c .before .before .before .args .w .at)
 r-is c =
-    let s = c .before .before .before .before in
+    let s = c .before .before .before in
     branches-are (s .args .b .now) (s .args .z) (s .pre .1) (s .args .w .at) (c .size-at .result) (c .size-at .ensures .is)
 
 add-t10 : tie.Need-add-t10
@@ -55,7 +49,7 @@ larger-requires c κs = search needs
 returns : tie.Need-returns
 unfolding lineAfter
 returns c =
-    let s = c .before .before .before .before .before .before .before in
+    let s = c .before .before .before .before .before .before in
     let ws = s .args .b .now in
     record {
       no-is = c .before .before .before .before .lower .ensures;
@@ -71,10 +65,8 @@ advance-spec =
     tie.close
     (tie.spec
     add-at
-    add-at-2
-    add-at-3
     lower-requires
-    add-t7
+    add-t8
     size-at-requires
     add-t10
     add-size-at

@@ -127,7 +127,7 @@ returns-3 c =
           (getD (t .args .plan .now) (t .args .p) 0) (known d)
           (money d _ (c .child-cost .ensures)) (child d .mask-is))
           ∙ joins d k es;
-      below = inr (known d .c-action);
+      option = inr (known d .c-option);
     }
 
 pub child-at-spec : {M : Type 1} → statement M

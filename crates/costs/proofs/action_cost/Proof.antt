@@ -26,7 +26,7 @@ room : (s : tie.Start) →
     (s .args .z .h ≤ 8)
     × (s .args .z .s ≤ 64)
     × (s .args .z .l ≤ 2048)
-    × (length (ws s) ≡ 4 + s .args .z .h + s .args .z .s + 2 * s .args .z .l)
+    × (length (ws s) ≡ s .args .z .columns + 2 * s .args .z .l)
     × (s .args .j + 1 + branches (ws s) (s .args .j) ≤ s .args .z .l)
     × (s .args .p < 64)
 room s =
@@ -50,7 +50,7 @@ total s =
 -- what was read
 module _ (c : tie.After-base) where
   abbrev start : tie.Start
-  start = c .before .before .before .before
+  start = c .before .before .before
 
   unit : start .args .unit ≡ scale (ws start) ^ togo (ws start) (start .args .p)
   unit = start .pre .4
@@ -62,7 +62,7 @@ module _ (c : tie.After-base) where
 
 cost : (c : tie.After-wide-at) →
     let s = start (c .before) in
-    word (ws s) (4 + s .args .z .h + s .args .z .s + s .args .j + s .args .z .l) ≡ action (ws s) (s .args .p) (s .args .c) .cost
+    word (ws s) (s .args .z .columns + s .args .j + s .args .z .l) ≡ action (ws s) (s .args .p) (s .args .c) .cost
 cost c =
     let s = start (c .before) in
     cost-is (ws s) (s .pre .0) (s .args .z) (s .pre .1) (s .args .p) (s .args .c) (s .args .j) (s .pre .3) _ refl
@@ -75,7 +75,7 @@ module _ (c : tie.After-base) where
   base = start c .pre .2 .base (start c .args .p) (start c .pre .3 .state)
 
   terms-is : let s = start c in
-      terms (ws s) (4 + s .args .z .h + s .args .z .s + s .args .j + 1) (s .args .z .l) (getD (s .args .x .now) (64 + s .args .p) 0) 0
+      terms (ws s) (s .args .z .columns + s .args .j + 1) (s .args .z .l) (getD (s .args .x .now) (64 + s .args .p) 0) 0
       (c .before .plain-at .result)
       ≡ action (ws s) (s .args .p) (s .args .c) .transitions
   terms-is =
@@ -85,27 +85,21 @@ module _ (c : tie.After-base) where
 add-at : tie.Need-add-at
 add-at c = let r = room (c .before) in omega arith
 
-add-at-2 : tie.Need-add-at-2
-add-at-2 c = let r = room (c .before .before) in omega arith
-
-add-at-3 : tie.Need-add-at-3
-add-at-3 c = let r = room (c .before .before) in omega arith
-
 plain-at-requires : tie.Need-plain-at-requires
 plain-at-requires c κs =
-    let s = c .before .before in
+    let s = c .before in
     let r = room s in
     let a = s .pre .3 in
     (omega arith, line-up (ws s) (s .pre .0) (s .args .p) (a .state) (s .args .c) (a .action) (s .args .z) (s .pre .1) (s .args .j) (a .line-is) _ refl)
 
 add-base : tie.Need-add-base
-add-base c = let r = room (c .before .before .before) in omega arith
+add-base c = let r = room (c .before .before) in omega arith
 
 mul-base : tie.Need-mul-base
-mul-base c = let r = room (c .before .before .before) in omega arith
+mul-base c = let r = room (c .before .before) in omega arith
 
 element-copy-out-base : tie.Need-element-copy-out-base
-element-copy-out-base c = let r = room (c .before .before .before) in omega arith
+element-copy-out-base c = let r = room (c .before .before) in omega arith
 
 add-wide-at : tie.Need-add-wide-at
 add-wide-at c = let r = room (start c) in omega arith
@@ -156,8 +150,6 @@ action-cost-spec =
     tie.close
     (tie.spec
     add-at
-    add-at-2
-    add-at-3
     plain-at-requires
     add-base
     mul-base

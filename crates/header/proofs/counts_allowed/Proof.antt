@@ -7,17 +7,16 @@ use native.Mathlib.Omega.{arith}
 use borrow.Author.Tests.{not-true, not-false}
 use Rattle.model.specs.Lists.{all}
 use Rattle.model.specs.Model.{stateCount}
-use Rattle.model.specs.Questions.{mostActions, countsAllowed}
+use Rattle.model.specs.Questions.{countAllowed, countsAllowed}
 use Rattle.questions.specs.Ranges.{all-fails, all-more}
 use Rattle.book.specs.Read.{StageNear}
 use Rattle.book.proofs.Stages.{start-near, for-stage, next-near}
-use Rattle.header.specs.Counts.{counted}
 use borrow.Author.Needs.{needs}
 use Rattle.header.proofs.counts_allowed.Statement.{statement}
 use Rattle.header.proofs.counts_allowed.Tie as tie
 
 abbrev Inv-loop : tie.InvT-loop
-Inv-loop b z h s t₀ p₀ t p = (p ≤ stateCount b) × StageNear b p t × (all p (counted b) ≡ true)
+Inv-loop b z h s t₀ p₀ t p = (p ≤ stateCount b) × StageNear b p t × (all p (countAllowed b) ≡ true)
 
 abbrev μ-loop : tie.MeasureT-loop
 μ-loop b z h s t₀ p₀ t p = s - p
@@ -39,8 +38,8 @@ count-allowed-requires c κs = search needs
 
 -- the answer is the definition's, since t is the stage of p
 answer : (c : tie.After-count-allowed Inv-loop μ-loop) →
-    counted (c .before .before .before .before .args .b .now) (c .before .before .before .loop .p) ≡ c .count-allowed .result
-unfolding counted mostActions
+    countAllowed (c .before .before .before .before .args .b .now) (c .before .before .before .loop .p) ≡ c .count-allowed .result
+unfolding countAllowed
 answer c =
     let t = c .before .before .before in
     let for = c .before .stage-for in
@@ -51,11 +50,11 @@ answer c =
     )
 
 returns : tie.Need-returns Inv-loop μ-loop
-unfolding countsAllowed counted
+unfolding countsAllowed countAllowed
 returns c =
     let t = c .before .before .before .before in
     let ws = t .before .args .b .now in
-    sym (all-fails (stateCount ws) (counted ws) (t .loop .p) (omega arith) (answer (c .before) ∙ not-true _ (c .if1 .taken)))
+    sym (all-fails (stateCount ws) (countAllowed ws) (t .loop .p) (omega arith) (answer (c .before) ∙ not-true _ (c .if1 .taken)))
 
 add-p : tie.Need-add-p Inv-loop μ-loop
 add-p c = search needs
@@ -70,11 +69,11 @@ loop-again c =
     let for = c .before .before .stage-for in (
       omega arith,
       next-near ws (t .loop .p) (for .result) (for .ensures),
-      all-more (t .loop .p) (counted ws) (t .loop .inv .2) (answer (c .before) ∙ not-false _ (c .if1 .left)),
+      all-more (t .loop .p) (countAllowed ws) (t .loop .inv .2) (answer (c .before) ∙ not-false _ (c .if1 .left)),
     )
 
 returns-2 : tie.Need-returns-2 Inv-loop μ-loop
-unfolding countsAllowed counted
+unfolding countsAllowed countAllowed
 returns-2 c =
     let e : c .before .loop .p ≡ stateCount (c .before .before .args .b .now) = omega arith in
     sym (rw e at (c .before .loop .inv .2))

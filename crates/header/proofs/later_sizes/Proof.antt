@@ -2,12 +2,11 @@
 -- Assumes nothing.
 use mathlib.Core.Path.{_≡_, refl, sym}
 use mathlib.Core.Bool.{true}
-use Prim.Native.Nat.{ℕ, _+_, _-_, _≤_}
+use Prim.Native.Nat.{_-_, _≤_}
 use native.Mathlib.Omega.{arith}
-use lib.IntN.{pos}
 use Rattle.model.specs.Lists.{all}
-use Rattle.model.specs.Model.{word, horizon}
-use Rattle.model.specs.Questions.{inside}
+use Rattle.model.specs.Model.{horizon}
+use Rattle.model.specs.Questions.{laterSize}
 use Rattle.questions.specs.Ranges.{all-fails, all-more}
 use Rattle.book.proofs.Words.{no, yes′}
 use borrow.Author.Needs.{needs}
@@ -15,8 +14,7 @@ use Rattle.header.proofs.later_sizes.Statement.{statement}
 use Rattle.header.proofs.later_sizes.Tie as tie
 
 abbrev Inv-loop : tie.InvT-loop
-Inv-loop b h n₀ n =
-    (n ≤ h) × (all n (λ (n : ℕ). inside (pos 1) (pos 16) (word b (4 + n))) ≡ true)
+Inv-loop b h n₀ n = (n ≤ h) × (all n (laterSize b) ≡ true)
 
 abbrev μ-loop : tie.MeasureT-loop
 μ-loop b h n₀ n = h - n
@@ -35,7 +33,7 @@ returns c =
     let t = c .before .before in
     let ws = t .before .before .args .b .now in
     sym
-    (all-fails (horizon ws) (λ (n : ℕ). inside (pos 1) (pos 16) (word ws (4 + n))) (t .before .loop .n) (omega arith)
+    (all-fails (horizon ws) (laterSize ws) (t .before .loop .n) (omega arith)
     (no (c .before .word-in .ensures) (c .if1 .taken)))
 
 add-n : tie.Need-add-n Inv-loop μ-loop
@@ -49,7 +47,7 @@ loop-again c =
     let t = c .before .before in
     let ws = t .before .before .args .b .now in (
       omega arith,
-      all-more (t .before .loop .n) (λ (n : ℕ). inside (pos 1) (pos 16) (word ws (4 + n))) (t .before .loop .inv .1)
+      all-more (t .before .loop .n) (laterSize ws) (t .before .loop .inv .1)
           (yes′ (c .before .word-in .ensures) (c .if1 .left)),
     )
 

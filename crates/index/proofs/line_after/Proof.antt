@@ -16,25 +16,19 @@ add-result c = search needs
 add-plain-at : tie.Need-add-plain-at
 add-plain-at c = let s = accepted (c .before .args .b .now) (c .before .pre .0) .sizes in omega arith
 
-add-plain-at-2 : tie.Need-add-plain-at-2
-add-plain-at-2 c = let s = accepted (c .before .before .args .b .now) (c .before .before .pre .0) .sizes in omega arith
-
-add-plain-at-3 : tie.Need-add-plain-at-3
-add-plain-at-3 c = let s = accepted (c .before .before .args .b .now) (c .before .before .pre .0) .sizes in omega arith
-
 plain-at-requires : tie.Need-plain-at-requires
 plain-at-requires c κs =
-    let t = c .before .before in
+    let t = c .before in
     let s = accepted (t .args .b .now) (t .pre .0) .sizes in
     (omega arith, rw (left-is (t .args .b .now) (t .args .z) (t .pre .1) (t .args .j) _ refl) (t .pre .3))
 
 add-result-2 : tie.Need-add-result-2
-add-result-2 c = let s = accepted (c .before .before .before .args .b .now) (c .before .before .before .pre .0) .sizes in omega (arith, c .plain-at .ensures .small)
+add-result-2 c = let s = accepted (c .before .before .args .b .now) (c .before .before .pre .0) .sizes in omega (arith, c .plain-at .ensures .small)
 
 returns : tie.Need-returns
 unfolding lineAfter
 returns c =
-    let s = c .before .before .before in
+    let s = c .before .before in
     ap (λ n. s .args .j + 1 + n)
     (branches-are (s .args .b .now) (s .args .z) (s .pre .1) (s .args .j) (c .plain-at .result) (c .plain-at .ensures .is))
 
@@ -44,8 +38,6 @@ line-after-spec =
     (tie.spec
     add-result
     add-plain-at
-    add-plain-at-2
-    add-plain-at-3
     plain-at-requires
     add-result-2
     returns)

@@ -10,7 +10,7 @@ use Rattle.model.specs.Recursion.{leastToGo, leastCostToGo}
 use Rattle.model.specs.Questions.{bookNumber}
 use Rattle.model.specs.Calls.{leastCost}
 use Rattle.questions.specs.FirstNo.{refused}
-use Rattle.accepted.specs.Shape.{shape, togo-start}
+use Rattle.accepted.specs.Shape.{lists, togo-start}
 use Rattle.accepted.specs.Demands.{least-call}
 use Rattle.index.proofs.Lines.{headed}
 use Rattle.costs.proofs.Sums.{read64}
@@ -56,7 +56,7 @@ returns-2 c =
     let ws = e .before .before .args .b .now in (
       sym ok,
       read64 (getD (t .last .1 .1 .1 .1 .0) 0 (pos 0)) (c .t17 .given)
-          ∙ t .ensures .least-is 0 (omega arith) (shape ws ok .some-state)
+          ∙ t .ensures .least-is 0 (omega arith) (lists ws ok .first-alive)
           ∙ ap (λ m. leastToGo (scale ws) (action ws) (options ws) m 0) (togo-start ws ok)
           ∙ sym (least-call ws ok),
     )

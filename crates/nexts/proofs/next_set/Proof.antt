@@ -11,7 +11,7 @@ use Rattle.accepted.specs.Facts.{accepted}
 use Rattle.book.proofs.Columns.{left-is, branches-are}
 use Rattle.index.proofs.Lines.{lines-inside}
 use Rattle.index.proofs.Signs.{line-up, next-up}
-use Rattle.sets.specs.Sets.{plus}
+use Rattle.sets.specs.Sets.{with}
 use Rattle.nexts.proofs.Gather.{ToAdd, all-to-add, add-next, all-added}
 use borrow.Author.Needs.{needs}
 use Rattle.nexts.proofs.next_set.Statement.{statement}
@@ -35,41 +35,35 @@ module _ (s : tie.Start Inv-loop μ-loop) where
   inside = lines-inside ws (s .pre .0) (s .args .p) (s .pre .3) (s .args .c) (s .pre .4)
 
 add-at : tie.Need-add-at Inv-loop μ-loop
-add-at c = let z = sizes (c .before) in omega arith
-
-add-at-2 : tie.Need-add-at-2 Inv-loop μ-loop
-add-at-2 c = let z = sizes (c .before .before) in omega arith
-
-add-at-3 : tie.Need-add-at-3 Inv-loop μ-loop
-add-at-3 c = let s = c .before .before in let z = sizes s in omega (arith, inside s, s .pre .5)
+add-at c = let s = c .before in let z = sizes s in omega (arith, inside s, s .pre .5)
 
 plain-at-requires : tie.Need-plain-at-requires Inv-loop μ-loop
 plain-at-requires c κs =
-    let s = c .before .before in
+    let s = c .before in
     let z = sizes s in (
       omega (arith, inside s, s .pre .5),
       line-up (ws s) (s .pre .0) (s .args .p) (s .pre .3) (s .args .c) (s .pre .4) (s .args .z) (s .pre .1) (s .args .j) (s .pre .5) _ refl,
     )
 
 -- r, as it was read
-r-is : (c : tie.After-plain-at Inv-loop μ-loop) → let s = c .before .before .before in
+r-is : (c : tie.After-plain-at Inv-loop μ-loop) → let s = c .before .before in
     c .plain-at .result ≡ branches (ws s) (actionLine (ws s) (s .args .p) (s .args .c))
 r-is c =
-    let s = c .before .before .before in
+    let s = c .before .before in
     branches-are (ws s) (s .args .z) (s .pre .1) (s .args .j) (c .plain-at .result) (c .plain-at .ensures .is) ∙ ap (branches (ws s)) (s .pre .5)
 
 add-base : tie.Need-add-base Inv-loop μ-loop
-add-base c = let z = sizes (c .before .before .before) in omega arith
+add-base c = let z = sizes (c .before .before) in omega arith
 
 mul-base : tie.Need-mul-base Inv-loop μ-loop
-mul-base c = let z = sizes (c .before .before .before) in omega arith
+mul-base c = let z = sizes (c .before .before) in omega arith
 
 element-copy-out-base : tie.Need-element-copy-out-base Inv-loop μ-loop
-element-copy-out-base c = let z = sizes (c .before .before .before) in omega arith
+element-copy-out-base c = let z = sizes (c .before .before) in omega arith
 
 loop-holds : tie.Need-loop-holds Inv-loop μ-loop
 loop-holds c =
-    let s = c .before .before .before .before in (
+    let s = c .before .before .before in (
       omega arith,
       all-to-add (ws s) (s .args .p) (s .args .c) (c .before .plain-at .result) (s .pre .0) (s .pre .3) (s .pre .4) (r-is (c .before)),
     )
@@ -80,14 +74,14 @@ add-i c = search needs
 add-plain-at : tie.Need-add-plain-at Inv-loop μ-loop
 add-plain-at c =
     let r = c .before .before .before in
-    let s = r .before .before .before in
+    let s = r .before .before in
     let z = sizes s in
     omega (arith, inside s, r-is r, s .pre .5)
 
 plain-at-requires-2 : tie.Need-plain-at-requires-2 Inv-loop μ-loop
 plain-at-requires-2 c κs =
     let r = c .before .before .before in
-    let s = r .before .before .before in
+    let s = r .before .before in
     let z = sizes s in (
       omega (arith, inside s, r-is r, s .pre .5),
       next-up (ws s) (s .pre .0) (s .args .p) (s .pre .3) (s .args .c) (s .pre .4) (s .args .z) (s .pre .1) (s .args .j) (s .pre .5)
@@ -100,7 +94,7 @@ module _ (c : tie.After-plain-at2 Inv-loop μ-loop) where
   l = c .before .before
 
   abbrev s : tie.Start Inv-loop μ-loop
-  s = l .before .before .before .before .before
+  s = l .before .before .before .before
 
   abbrev r : ℕ
   r = l .before .before .plain-at .result
@@ -116,14 +110,14 @@ module _ (c : tie.After-plain-at2 Inv-loop μ-loop) where
       ∙ ap natAbs (left-is (ws s) (s .args .z) (s .pre .1) (actionLine (ws s) (s .args .p) (s .args .c) + 1 + l .loop .i) _
       (omega (arith, s .pre .5))))
 
-  turn : (q < 64) × ToAdd (ws s) (s .args .p) (s .args .c) r (l .loop .i + 1) (plus (l .loop .set) q)
+  turn : (q < 64) × ToAdd (ws s) (s .args .p) (s .args .c) r (l .loop .i + 1) (with (l .loop .set) q)
   turn = add-next (ws s) (s .args .p) (s .args .c) r (l .loop .i) (l .loop .set) (l .loop .inv .1) q (omega arith) q-is
 
 add-q : tie.Need-add-q Inv-loop μ-loop
 add-q c = omega (arith, turn c)
 
-add-requires : tie.Need-add-requires Inv-loop μ-loop
-add-requires c κs = turn c .0
+with64-requires : tie.Need-with64-requires Inv-loop μ-loop
+with64-requires c κs = turn c .0
 
 loop-less : tie.Need-loop-less Inv-loop μ-loop
 loop-less c = search needs
@@ -131,12 +125,12 @@ loop-less c = search needs
 loop-again : tie.Need-loop-again Inv-loop μ-loop
 loop-again c =
     let t = turn (c .before) .1 in
-    (omega arith, subst (ToAdd (ws (s (c .before))) _ _ (r (c .before)) _) (sym (c .add .ensures)) t)
+    (omega arith, subst (ToAdd (ws (s (c .before))) _ _ (r (c .before)) _) (sym (c .with64 .ensures)) t)
 
 returns : tie.Need-returns Inv-loop μ-loop
 returns c =
     let l = c .before in
-    let s = l .before .before .before .before .before in
+    let s = l .before .before .before .before in
     all-added (ws s) (s .args .p) (s .args .c) (l .before .before .plain-at .result) (l .loop .i) (l .loop .set) (l .loop .inv .1) (omega arith)
 
 pub next-set-spec : {M : Type 1} → statement M
@@ -146,8 +140,6 @@ next-set-spec =
     Inv-loop
     μ-loop
     add-at
-    add-at-2
-    add-at-3
     plain-at-requires
     add-base
     mul-base
@@ -157,7 +149,7 @@ next-set-spec =
     add-plain-at
     plain-at-requires-2
     add-q
-    add-requires
+    with64-requires
     loop-less
     loop-again
     returns)

@@ -34,55 +34,49 @@ module _ (s : tie.Start Inv-loop μ-loop) where
   inside : actionLine ws (s .args .p) (s .args .c) + 1 + branches ws (actionLine ws (s .args .p) (s .args .c)) ≤ lineCount ws
   inside = lines-inside ws (s .pre .0) (s .args .p) (s .pre .3) (s .args .c) (s .pre .4)
 
-add-at : tie.Need-add-at Inv-loop μ-loop
-add-at c = let z = sizes (c .before) in omega arith
-
-add-at-2 : tie.Need-add-at-2 Inv-loop μ-loop
-add-at-2 c = let z = sizes (c .before .before) in omega arith
-
 mul-action-line : tie.Need-mul-action-line Inv-loop μ-loop
-mul-action-line c = let z = sizes (c .before .before) in omega arith
+mul-action-line c = let z = sizes c in omega arith
 
 element-copy-out-action-line : tie.Need-element-copy-out-action-line Inv-loop μ-loop
-element-copy-out-action-line c = let z = sizes (c .before .before) in omega arith
+element-copy-out-action-line c = let z = sizes c in omega arith
 
 action-line-requires : tie.Need-action-line-requires Inv-loop μ-loop
 action-line-requires c κs =
-    let s = c .before .before .before in
+    let s = c .before in
     (s .pre .0, s .pre .1, s .pre .3, s .pre .2 .line (s .args .p) (s .pre .3), omega arith)
 
-add-at-3 : tie.Need-add-at-3 Inv-loop μ-loop
-add-at-3 c = let s = c .before .before .before .before in let z = sizes s in omega (arith, inside s)
+add-at : tie.Need-add-at Inv-loop μ-loop
+add-at c = let s = c .before .before .before in let z = sizes s in omega (arith, inside s)
 
 plain-at-requires : tie.Need-plain-at-requires Inv-loop μ-loop
 plain-at-requires c κs =
-    let s = c .before .before .before .before in
+    let s = c .before .before .before in
     let z = sizes s in (
       omega (arith, inside s),
-      line-up (ws s) (s .pre .0) (s .args .p) (s .pre .3) (s .args .c) (s .pre .4) (s .args .z) (s .pre .1) (c .action-line .result)
-          (c .action-line .ensures) _ refl,
+      line-up (ws s) (s .pre .0) (s .args .p) (s .pre .3) (s .args .c) (s .pre .4) (s .args .z) (s .pre .1) (c .before .action-line .result)
+          (c .before .action-line .ensures) _ refl,
     )
 
 -- r, as it was read
-r-is : (c : tie.After-plain-at Inv-loop μ-loop) → let s = c .before .before .before .before .before in
+r-is : (c : tie.After-plain-at Inv-loop μ-loop) → let s = c .before .before .before .before in
     c .plain-at .result ≡ branches (ws s) (actionLine (ws s) (s .args .p) (s .args .c))
 r-is c =
-    let s = c .before .before .before .before .before in
-    branches-are (ws s) (s .args .z) (s .pre .1) (c .before .action-line .result) (c .plain-at .result) (c .plain-at .ensures .is)
-    ∙ ap (branches (ws s)) (c .before .action-line .ensures)
+    let s = c .before .before .before .before in
+    branches-are (ws s) (s .args .z) (s .pre .1) (c .before .before .action-line .result) (c .plain-at .result) (c .plain-at .ensures .is)
+    ∙ ap (branches (ws s)) (c .before .before .action-line .ensures)
 
 add-base : tie.Need-add-base Inv-loop μ-loop
-add-base c = let z = sizes (c .before .before .before .before .before) in omega arith
+add-base c = let z = sizes (c .before .before .before .before) in omega arith
 
 mul-base : tie.Need-mul-base Inv-loop μ-loop
-mul-base c = let z = sizes (c .before .before .before .before .before) in omega arith
+mul-base c = let z = sizes (c .before .before .before .before) in omega arith
 
 element-copy-out-base : tie.Need-element-copy-out-base Inv-loop μ-loop
-element-copy-out-base c = let z = sizes (c .before .before .before .before .before) in omega arith
+element-copy-out-base c = let z = sizes (c .before .before .before .before) in omega arith
 
 loop-holds : tie.Need-loop-holds Inv-loop μ-loop
 loop-holds c =
-    let s = c .before .before .before .before .before .before in (
+    let s = c .before .before .before .before .before in (
       omega arith,
       all-to-mark (ws s) (s .args .p) (s .args .c) (c .before .plain-at .result) (s .pre .0) (s .pre .3) (s .pre .4) (r-is (c .before))
           (s .args .marks .now),
@@ -94,15 +88,15 @@ add-i c = search needs
 add-plain-at : tie.Need-add-plain-at Inv-loop μ-loop
 add-plain-at c =
     let r = c .before .before .before in
-    let s = r .before .before .before .before .before in
+    let s = r .before .before .before .before in
     let z = sizes s in
     omega (arith, inside s, r-is r)
 
 plain-at-requires-2 : tie.Need-plain-at-requires-2 Inv-loop μ-loop
 plain-at-requires-2 c κs =
     let r = c .before .before .before in
-    let s = r .before .before .before .before .before in
-    let j = r .before .action-line in
+    let s = r .before .before .before .before in
+    let j = r .before .before .action-line in
     let z = sizes s in (
       omega (arith, inside s, r-is r),
       next-up (ws s) (s .pre .0) (s .args .p) (s .pre .3) (s .args .c) (s .pre .4) (s .args .z) (s .pre .1) (j .result) (j .ensures)
@@ -115,7 +109,7 @@ module _ (c : tie.After-plain-at2 Inv-loop μ-loop) where
   l = c .before .before
 
   abbrev s : tie.Start Inv-loop μ-loop
-  s = l .before .before .before .before .before .before .before
+  s = l .before .before .before .before .before .before
 
   abbrev r : ℕ
   r = l .before .before .plain-at .result
@@ -129,7 +123,7 @@ module _ (c : tie.After-plain-at2 Inv-loop μ-loop) where
       ap₂ _+_ (s .pre .2 .base (s .args .p) (s .pre .3))
       (c .plain-at2 .ensures .is
       ∙ ap natAbs (left-is (ws s) (s .args .z) (s .pre .1) (actionLine (ws s) (s .args .p) (s .args .c) + 1 + l .loop .i) _
-      (omega (arith, l .before .before .before .action-line .ensures))))
+      (omega (arith, l .before .before .before .before .action-line .ensures))))
 
   turn : (q < 64) × ToMark (ws s) (s .args .p) (s .args .c) r (l .loop .i + 1) (s .args .marks .now) (set (l .loop .marks) q true)
   turn =
@@ -150,7 +144,7 @@ loop-again c = (omega arith, turn c .1)
 returns : tie.Need-returns Inv-loop μ-loop
 returns c =
     let l = c .before in
-    let s = l .before .before .before .before .before .before .before in
+    let s = l .before .before .before .before .before .before in
     all-marked (ws s) (s .args .p) (s .args .c) (l .before .before .plain-at .result) (l .loop .i) (s .args .marks .now) (l .loop .marks)
     (l .loop .inv .1) (omega arith)
 
@@ -160,12 +154,10 @@ mark-nexts-spec =
     (tie.spec
     Inv-loop
     μ-loop
-    add-at
-    add-at-2
     mul-action-line
     element-copy-out-action-line
     action-line-requires
-    add-at-3
+    add-at
     plain-at-requires
     add-base
     mul-base

@@ -7,8 +7,7 @@ use native.Mathlib.Omega.{arith}
 use lib.ListN.{length}
 use Rattle.model.specs.Model.{stateCount}
 use Rattle.accepted.specs.Facts.{accepted}
-use Rattle.accepted.specs.Shape.{shape}
-use Rattle.value.proofs.Bytes.{policy-long}
+use Rattle.accepted.specs.Bytes.{policy-long}
 use Rattle.reach.proofs.Pass.{Passed, begin, byte-action, room, pass-action, pass-none, finish}
 use borrow.Author.Needs.{needs}
 use Rattle.reach.proofs.reach_weights.Statement.{statement}
@@ -30,7 +29,7 @@ loop-holds c =
     let bs = s .args .plan .now in (
       accepted ws (s .pre .0) .sizes .s-high,
       omega arith,
-      policy-long ws (s .pre .0) bs (s .pre .3) 0 (shape ws (s .pre .0) .some-state),
+      policy-long ws (s .pre .0) bs (s .pre .3),
       begin ws bs (c .first-weights .result) (c .first-weights .ensures),
     )
 

@@ -31,27 +31,21 @@ abbrev μ-loop : tie.MeasureT-loop
 sizes : (s : tie.Start Inv-loop μ-loop) → Sized (s .args .b .now)
 sizes s = accepted (s .args .b .now) (s .pre .0) .sizes
 
-add-line : tie.Need-add-line Inv-loop μ-loop
-add-line c = let z = sizes (c .before) in omega arith
-
-add-line-2 : tie.Need-add-line-2 Inv-loop μ-loop
-add-line-2 c = let z = sizes (c .before .before) in omega arith
-
 mul-action-line : tie.Need-mul-action-line Inv-loop μ-loop
-mul-action-line c = let z = sizes (c .before .before) in omega arith
+mul-action-line c = let z = sizes c in omega arith
 
 element-copy-out-action-line : tie.Need-element-copy-out-action-line Inv-loop μ-loop
-element-copy-out-action-line c = let z = sizes (c .before .before) in omega arith
+element-copy-out-action-line c = let z = sizes c in omega arith
 
 action-line-requires : tie.Need-action-line-requires Inv-loop μ-loop
 action-line-requires c κs =
-    let s = c .before .before .before in
+    let s = c .before in
     (s .pre .0, s .pre .1, s .pre .3, s .pre .2 .line (s .args .p) (s .pre .3), omega arith)
 
 -- at the action's first line
 module _ (c : tie.After-action-line Inv-loop μ-loop) where
   abbrev s : tie.Start Inv-loop μ-loop
-  s = c .before .before .before .before
+  s = c .before .before
 
   abbrev ws : Words
   ws = s .args .b .now
@@ -60,44 +54,45 @@ module _ (c : tie.After-action-line Inv-loop μ-loop) where
   here = record { state = s .pre .3; action = s .pre .4; line-is = c .action-line .ensures }
 
   -- the words of its lines are there
-  inside : 4 + s .args .z .h + s .args .z .s + c .action-line .result + 1 + s .args .z .l + branches ws (c .action-line .result) ≤ length ws
+  inside : s .args .z .columns + c .action-line .result + 1 + s .args .z .l + branches ws (c .action-line .result) ≤ length ws
   inside =
       let z = sizes s in
       omega (arith, inside-lines ws (s .pre .0) (s .args .z) (s .pre .1) (s .args .p) (s .args .c) (c .action-line .result) here)
 
-add-line-3 : tie.Need-add-line-3 Inv-loop μ-loop
-add-line-3 c = let z = sizes (s c) in omega (arith, inside c)
+add-line : tie.Need-add-line Inv-loop μ-loop
+add-line c = let z = sizes (s (c .before)) in omega (arith, inside (c .before))
 
 plain-at-requires : tie.Need-plain-at-requires Inv-loop μ-loop
 plain-at-requires c κs =
-    let g = s c in (
-      omega (arith, inside c),
-      line-up (ws c) (g .pre .0) (g .args .p) (g .pre .3) (g .args .c) (g .pre .4) (g .args .z) (g .pre .1) (c .action-line .result)
-          (c .action-line .ensures) _ refl,
+    let a = c .before in
+    let g = s a in (
+      omega (arith, inside a),
+      line-up (ws a) (g .pre .0) (g .args .p) (g .pre .3) (g .args .c) (g .pre .4) (g .args .z) (g .pre .1) (a .action-line .result)
+          (a .action-line .ensures) _ refl,
     )
 
 -- r, as it was read
-r-is : (c : tie.After-plain-at Inv-loop μ-loop) → c .plain-at .result ≡ branches (ws (c .before)) (c .before .action-line .result)
+r-is : (c : tie.After-plain-at Inv-loop μ-loop) → c .plain-at .result ≡ branches (ws (c .before .before)) (c .before .before .action-line .result)
 r-is c =
-    let g = s (c .before) in
-    branches-are (ws (c .before)) (g .args .z) (g .pre .1) (c .before .action-line .result) (c .plain-at .result) (c .plain-at .ensures .is)
+    let g = s (c .before .before) in
+    branches-are (ws (c .before .before)) (g .args .z) (g .pre .1) (c .before .before .action-line .result) (c .plain-at .result) (c .plain-at .ensures .is)
 
 add-at : tie.Need-add-at Inv-loop μ-loop
-add-at c = let z = sizes (s (c .before)) in omega (arith, inside (c .before))
+add-at c = let z = sizes (s (c .before .before)) in omega (arith, inside (c .before .before))
 
 add-base : tie.Need-add-base Inv-loop μ-loop
-add-base c = let z = sizes (s (c .before)) in omega arith
+add-base c = let z = sizes (s (c .before .before)) in omega arith
 
 mul-base : tie.Need-mul-base Inv-loop μ-loop
-mul-base c = let z = sizes (s (c .before)) in omega arith
+mul-base c = let z = sizes (s (c .before .before)) in omega arith
 
 element-copy-out-base : tie.Need-element-copy-out-base Inv-loop μ-loop
-element-copy-out-base c = let z = sizes (s (c .before)) in omega arith
+element-copy-out-base c = let z = sizes (s (c .before .before)) in omega arith
 
 loop-holds : tie.Need-loop-holds Inv-loop μ-loop
 loop-holds c =
     let r = c .before .plain-at in
-    let a = c .before .before in
+    let a = c .before .before .before in
     let g = s a .args in
     let z = sizes (s a) in (
       omega arith,
@@ -113,7 +108,7 @@ add-plain-at c = omega arith
 plain-at-requires-2 : tie.Need-plain-at-requires-2 Inv-loop μ-loop
 plain-at-requires-2 c κs =
     let b = c .before .before .before in
-    let a = b .before in
+    let a = b .before .before in
     let g = s a in (
       omega arith,
       next-up (ws a) (g .pre .0) (g .args .p) (g .pre .3) (g .args .c) (g .pre .4) (g .args .z) (g .pre .1) (a .action-line .result)
@@ -126,7 +121,7 @@ module _ (c : tie.After-plain-at2 Inv-loop μ-loop) where
   l = c .before .before
 
   abbrev a : tie.After-action-line Inv-loop μ-loop
-  a = l .before .before .before
+  a = l .before .before .before .before
 
   abbrev base : ℕ
   base = getD (s a .args .x .now) (64 + s a .args .p) 0
@@ -135,7 +130,7 @@ module _ (c : tie.After-plain-at2 Inv-loop μ-loop) where
   abbrev q : ℕ
   q = base + c .plain-at2 .result
 
-  q-is : q ≡ base + natAbs (word (ws a) (4 + s a .args .z .h + s a .args .z .s + a .action-line .result + 1 + l .loop .i))
+  q-is : q ≡ base + natAbs (word (ws a) (s a .args .z .columns + a .action-line .result + 1 + l .loop .i))
   q-is = ap (λ (n : ℕ). base + n) (c .plain-at2 .ensures .is)
 
   low : q < 64
@@ -153,7 +148,7 @@ add-plain-at-3 c = omega arith
 plain-at-requires-3 : tie.Need-plain-at-requires-3 Inv-loop μ-loop
 plain-at-requires-3 c κs =
     let b = c .before .before .before .before in
-    let a = b .before in
+    let a = b .before .before in
     let g = s a in (
       omega arith,
       weight-up (ws a) (g .pre .0) (g .args .p) (g .pre .3) (g .args .c) (g .pre .4) (g .args .z) (g .pre .1) (a .action-line .result)
@@ -207,12 +202,10 @@ spread-action-spec =
     (tie.spec
     Inv-loop
     μ-loop
-    add-line
-    add-line-2
     mul-action-line
     element-copy-out-action-line
     action-line-requires
-    add-line-3
+    add-line
     plain-at-requires
     add-at
     add-base

@@ -4,10 +4,11 @@ use mathlib.Core.Path.{_≡_, refl, sym, ap, _∙_}
 use mathlib.Core.Logic.{inl}
 use Prim.Native.Nat.{_-_, _≤_}
 use native.Mathlib.Omega.{arith}
+use Rattle.model.specs.Lists.{upFrom}
 use Rattle.model.specs.Recursion.{bestOf}
-use Rattle.masks.specs.Masks.{has, free}
+use Rattle.sets.specs.Sets.{has, free}
 use Rattle.table.specs.Table.{Chosen, better, rowOf}
-use Rattle.table.proofs.Better.{none-right, best-step, chosen-step, free-end}
+use Rattle.table.proofs.Better.{none-right, rest, rest-end, best-step, chosen-step}
 use borrow.Author.Needs.{needs}
 use Rattle.table.proofs.best_action.Statement.{statement}
 use Rattle.table.proofs.best_action.Tie as tie
@@ -16,7 +17,7 @@ abbrev Inv-loop : tie.InvT-loop
 Inv-loop q p n mask best₀ c₀ best c =
     (c ≤ n)
     × Chosen best
-    × (bestOf (rowOf q p) (free mask 0 n) ≡ better (rowOf q p) best (bestOf (rowOf q p) (free mask c (n - c))))
+    × (bestOf (rowOf q p) (free mask (upFrom 0 n)) ≡ better (rowOf q p) best (bestOf (rowOf q p) (rest mask c n)))
 
 abbrev μ-loop : tie.MeasureT-loop
 μ-loop q p n mask best₀ c₀ best c = n - c
@@ -52,7 +53,7 @@ returns c =
     let s = l .before .args in
     let f = rowOf (s .q .now) (s .p) in
     sym
-    (l .loop .inv .2 ∙ ap (λ xs. better f (l .loop .best) (bestOf f xs)) (free-end (s .mask) (l .loop .c) (s .n) (omega arith))
+    (l .loop .inv .2 ∙ ap (λ xs. better f (l .loop .best) (bestOf f xs)) (rest-end (s .mask) (l .loop .c) (s .n) (omega arith))
     ∙ none-right f (l .loop .best) (l .loop .inv .1))
 
 pub best-action-spec : {M : Type 1} → statement M

@@ -9,17 +9,17 @@ use Rattle.table.proofs.Better.{chosen-below, take-new, keep-old}
 use Rattle.table.proofs.best_of_two.Statement.{statement}
 use Rattle.table.proofs.best_of_two.Tie as tie
 
-cast-barred : tie.Need-cast-barred
-cast-barred c = search needs
+cast-has8 : tie.Need-cast-has8
+cast-has8 c = search needs
 
-barred-requires : tie.Need-barred-requires
-barred-requires c κs = search needs
+has8-requires : tie.Need-has8-requires
+has8-requires c κs = search needs
 
 returns : tie.Need-returns
-returns c = rw (sym (c .before .barred .ensures) ∙ c .if1 .taken)
+returns c = rw (sym (c .before .has8 .ensures) ∙ c .if1 .taken)
 
 returns-2 : tie.Need-returns-2
-returns-2 c = rw (sym (c .before .before .barred .ensures) ∙ c .before .if1 .left, c .if2 .taken)
+returns-2 c = rw (sym (c .before .before .has8 .ensures) ∙ c .before .if1 .left, c .if2 .taken)
 
 small : (c : tie.Else2) → c .before .before .before .args .best < 8
 small c = chosen-below (c .before .before .before .args .best) (c .before .before .before .pre .2) (c .if2 .left)
@@ -43,22 +43,22 @@ returns-3 : tie.Need-returns-3
 returns-3 c =
     let d = c .before .before in
     let s = d .before .before .before in
-    rw (sym (d .before .before .barred .ensures) ∙ d .before .if1 .left)
+    rw (sym (d .before .before .has8 .ensures) ∙ d .before .if1 .left)
     (take-new (rowOf (s .args .q .now) (s .args .p)) (s .args .best) (s .args .c) (small d) (s .pre .1) (sym (c .before .below .ensures) ∙ c .if3 .taken))
 
 returns-4 : tie.Need-returns-4
 returns-4 c =
     let d = c .before .before in
     let s = d .before .before .before in
-    rw (sym (d .before .before .barred .ensures) ∙ d .before .if1 .left)
+    rw (sym (d .before .before .has8 .ensures) ∙ d .before .if1 .left)
     (keep-old (rowOf (s .args .q .now) (s .args .p)) (s .args .best) (s .args .c) (small d) (s .pre .1) (sym (c .before .below .ensures) ∙ c .if3 .left))
 
 pub best-of-two-spec : {M : Type 1} → statement M
 best-of-two-spec =
     tie.close
     (tie.spec
-    cast-barred
-    barred-requires
+    cast-has8
+    has8-requires
     returns
     returns-2
     mul-below

@@ -3,10 +3,11 @@
 use mathlib.Core.Path.{_≡_, ap, _∙_, subst}
 use Prim.Native.Nat.{_+_, _-_, _≤_}
 use native.Mathlib.Omega.{arith}
+use Rattle.model.specs.Lists.{upFrom}
 use Rattle.model.specs.Model.{stateCount}
 use Rattle.model.specs.Recursion.{bestOf}
-use Rattle.masks.specs.Masks.{free}
 use Rattle.accepted.specs.Facts.{accepted}
+use Rattle.accepted.specs.Options.{state-alive}
 use Rattle.costs.proofs.ToGo.{least-bounded}
 use Rattle.costs.proofs.Sums.{read64}
 use Rattle.table.specs.Table.{rowOf, TableFrom}
@@ -46,7 +47,7 @@ fill-row-requires c κs =
       s .pre .1,
       s .pre .2,
       omega arith,
-      least-bounded ws (s .pre .0) (l .loop .p - 1) (l .loop .v) (λ q a h. l .loop .inv .2 .least-is q (omega arith) h),
+      least-bounded ws (s .pre .0) (l .loop .p - 1) (l .loop .v) (λ q a h. l .loop .inv .2 .least-is q (omega arith) (state-alive ws (s .pre .0) q h)),
       l .loop .inv .2 .rows,
     )
 
@@ -89,8 +90,8 @@ loop-again c =
       l .loop .inv .0,
       omega arith,
       table-more ws (s .pre .0) p (omega arith) (l .loop .q) (l .loop .v) r t (f .fill-row .ensures) (y .result)
-          (y .ensures ∙ ap (λ n. rowOf r p (bestOf (rowOf r p) (free 0 0 n))) (c .before .before .count .ensures)
-          ∙ row-least ws (s .pre .0) p (omega arith) (l .loop .q) (l .loop .v) r t (f .fill-row .ensures)),
+          (λ a. y .ensures ∙ ap (λ n. rowOf r p (bestOf (rowOf r p) (upFrom 0 n))) (c .before .before .count .ensures)
+          ∙ row-least ws (s .pre .0) p (omega arith) (l .loop .q) (l .loop .v) r t (f .fill-row .ensures) a),
     )
 
 returns : tie.Need-returns Inv-loop μ-loop

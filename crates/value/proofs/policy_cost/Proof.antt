@@ -62,8 +62,8 @@ loop-again c =
       l .loop .inv .0,
       omega arith,
       length-set (l .loop .v) p (y .result) ∙ l .loop .inv .2,
-      holds-more ws (s .pre .0) (λ q. costToGo (scale ws) (taken ws (s .args .plan .now)) (togo ws q) q) p (l .loop .v) (y .result)
-          (omega (arith, l .loop .inv .2)) (y .ensures) (λ q a h. l .loop .inv .3 q (omega arith) h),
+      holds-more ws (s .pre .0) (λ q. q < stateCount ws) (λ q. costToGo (scale ws) (taken ws (s .args .plan .now)) (togo ws q) q) p (l .loop .v) (y .result)
+          (omega (arith, l .loop .inv .2)) (λ h. y .ensures) (λ q a h. l .loop .inv .3 q (omega arith) h),
     )
 
 array-copy-out-result : tie.Need-array-copy-out-result Inv-loop μ-loop

@@ -5,14 +5,17 @@ use mathlib.Core.Logic.{⊎-elim}
 use Prim.Native.Nat.{_<_}
 use native.Mathlib.Omega.{arith}
 use lib.ListN.{length, getD}
-use Rattle.model.specs.Model.{Words, scale, togo, actionCount, action}
+use Rattle.model.specs.Model.{Words, scale, stateCount, togo, actionCount, action}
 use Rattle.model.specs.Policy.{Policy}
 use Rattle.model.specs.Path.{byteAt, taken}
 use Rattle.model.specs.Recursion.{actionCost, costToGo}
 use Rattle.accepted.specs.Facts.{accepted}
 use Rattle.costs.proofs.Sums.{read64}
 use Rattle.costs.proofs.ToGo.{policy-step, policy-bounded, by-array}
-use Rattle.value.proofs.Bytes.{byte-is, byte-cases, policy-long, no-cost}
+use Rattle.accepted.specs.Options.{option-below}
+use Rattle.accepted.specs.Shape.{shape}
+use Rattle.accepted.specs.Bytes.{byte-is, byte-cases, policy-long}
+use Rattle.value.proofs.Bytes.{no-cost}
 use Rattle.value.proofs.state_cost.Statement.{statement}
 use Rattle.value.proofs.state_cost.Tie as tie
 
@@ -24,7 +27,7 @@ module _ (s : tie.Start) where
   bs = s .args .plan .now
 
   long : s .args .p < length bs
-  long = omega (arith, policy-long ws (s .pre .0) bs (s .pre .3) (s .args .p) (s .pre .4), s .pre .4)
+  long = omega (arith, policy-long ws (s .pre .0) bs (s .pre .3), s .pre .4)
 
   byte : byteAt bs (s .args .p) ≡ getD bs (s .args .p) 0
   byte = byte-is bs (s .args .p) 255 0 long
@@ -38,7 +41,7 @@ low : (c : tie.Else1) →
     getD (bs s) (s .args .p) 0 < actionCount (ws s) (s .args .p)
 low c =
     let s = c .before .before .before in
-    ⊎-elim (λ e. absurd (c .if1 .left (sym (byte s) ∙ e))) (λ l. omega (arith, byte s, l))
+    ⊎-elim (λ e. absurd (c .if1 .left (sym (byte s) ∙ e))) (λ o. omega (arith, byte s, option-below (ws s) (s .args .p) o))
     (byte-cases (ws s) (s .pre .0) (bs s) (s .pre .3) (s .args .p) (s .pre .4))
 
 shared-slice-read-c : tie.Need-shared-slice-read-c
@@ -83,7 +86,8 @@ returns-2 c =
     let s = c .before .before .before .before .before .before .before in
     rw (read64 (c .action-cost .result) (c .action-cost .ok))
     (c .action-cost .ensures
-    ∙ by-array (ws s) (s .pre .0) (λ q. costToGo (scale (ws s)) (taken (ws s) (bs s)) (togo (ws s) q) q) (s .args .p) _ (s .args .v .now) (s .pre .5)
+    ∙ by-array (ws s) (s .pre .0) (λ q. q < stateCount (ws s)) (λ q. costToGo (scale (ws s)) (taken (ws s) (bs s)) (togo (ws s) q) q) (s .args .p) _ (s .args .v .now)
+    (shape (ws s) (s .pre .0) .inside (s .args .p) _) (s .pre .5)
     ∙ ap (λ k. actionCost (scale (ws s)) (togo (ws s) (s .args .p)) (λ q. costToGo (scale (ws s)) (taken (ws s) (bs s)) (togo (ws s) q) q) (action (ws s) (s .args .p) k))
     (sym (byte s))
     ∙ sym (policy-step (ws s) (s .pre .0) (bs s) (s .args .p)))

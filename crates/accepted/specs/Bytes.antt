@@ -1,0 +1,38 @@
+-- The bytes of a policy: as many as there are states, each an option of its state or 255.
+-- Assumes nothing.
+use mathlib.Core.Path.{_≡_, refl}
+use mathlib.Core.Bool.{Bool, true, false}
+use mathlib.Core.Logic.{_⊎_, inl, inr}
+use mathlib.Core.List.{List, [], _∷_}
+use Prim.Native.Nat.{ℕ, zero, suc, _<_}
+use native.Mathlib.Omega.{arith}
+use lib.Dec.{T-not}
+use lib.ListN.{length, getD}
+use Rattle.model.specs.Lists.{isIn}
+use Rattle.model.specs.Model.{Words, stateCount}
+use Rattle.model.specs.Questions.{bookNumber}
+use Rattle.model.specs.Policy.{Policy, isPolicy}
+use Rattle.model.specs.Path.{byteAt}
+use Rattle.laws.specs.Members.{isIn-in, in-isIn, true-T, false-T}
+use Rattle.accepted.specs.Options.{Option}
+use Rattle.accepted.specs.Demands.{reached, PolicyBytes, policy-bytes}
+
+-- a byte that is there is read whatever stands for a missing one
+pub byte-is : (bs : List ℕ) (p d e : ℕ) → p < length bs → getD bs p d ≡ getD bs p e
+byte-is [] p d e h = absurd (omega arith)
+byte-is (b ∷ bs) zero d e h = refl
+byte-is (b ∷ bs) (suc p) d e h = byte-is bs p d e (omega arith)
+
+module _ (ws : Words) (ok : bookNumber ws ≡ 0) (bs : Policy) (is : isPolicy ws bs ≡ true) where
+  bytes : PolicyBytes ws bs
+  bytes = policy-bytes ws ok bs .0 (true-T is)
+
+  pub policy-long : length bs ≡ stateCount ws
+  policy-long = bytes .long
+
+  pub byte-cases : (p : ℕ) → p < stateCount ws → (byteAt bs p ≡ 255) ⊎ Option ws p (byteAt bs p)
+  byte-cases p state = go (isIn p (reached ws bs)) refl
+    where
+      go : (b : Bool) → isIn p (reached ws bs) ≡ b → (byteAt bs p ≡ 255) ⊎ Option ws p (byteAt bs p)
+      go true e = inr (bytes .at-reached p state (isIn-in p (reached ws bs) (true-T e)))
+      go false e = inl (bytes .at-other p state (λ i. T-not (isIn p (reached ws bs)) (false-T e) (in-isIn p (reached ws bs) i)))
