@@ -8,19 +8,20 @@ use native.Mathlib.Decide.{ℕ-discrete}
 use native.Mathlib.Omega.{arith}
 use borrow.Author.Tests.{eq-eqb, ne-eqb}
 use lib.IntN.{ℤ}
-use lib.ListN.{length, take}
+use lib.ListN.{getD, take}
 use Rattle.model.specs.Model.{Words, stateCount, action}
 use Rattle.model.specs.Policy.{Policy}
 use Rattle.build.specs.Walk.{walkBy, chosen}
 use Rattle.build.proofs.Prefix.{walk-long}
 use Rattle.stored.specs.Entry.{Entry}
 use Rattle.pool.specs.declared.Pool.{Pool}
-use Rattle.pool.specs.Entries.{entries, Formed, beyondOf, Holding, Inserted}
+use Rattle.pool.specs.Entries.{entries, firstEntry, Formed, beyondOf, Holding, Inserted, Popped}
 use Rattle.pool.proofs.Insertion.{beyond-kept}
-use Rattle.child.specs.Children.{childOf, joined, joinedIf, ChildIs}
+use Rattle.child.specs.Children.{entryOf, childOf, joined, joinedIf, ChildIs}
+use Rattle.child.specs.declared.Parent.{Parent}
 use Rattle.child.specs.declared.Child.{Child}
 use Rattle.child.proofs.Children.{if-none, if-some}
-use Rattle.engine.specs.Engine.{RowOf, mayEnter, admittedFrom}
+use Rattle.engine.specs.Engine.{RowOf, mayEnter, admittedFrom, splitPool, ParentIs}
 use Rattle.engine.proofs.Parts.{row-take}
 use Rattle.engine.proofs.States.{from-split, state-more, states-end}
 
@@ -36,17 +37,6 @@ module _ (ws : Words) (e : Entry) where
   pub joins-start : (pool : Pool) (s : ℕ) → Formed pool → e .split ≤ s → Joining ws (pool .most) e (entries (stateCount ws) pool) (e .split) s pool
   joins-start pool s formed h =
       record { formed = formed; most-is = refl; from = omega arith; to = h; joins = from-split ws e (pool .most) s (entries (stateCount ws) pool) }
-
-  pub joins-none : (pool : Pool) (s : ℕ) → Formed pool → s ≤ e .split → s ≡ stateCount ws
-      → Holding (stateCount ws) (admittedFrom ws (pool .most) e 0 (stateCount ws) (entries (stateCount ws) pool)) pool pool
-  joins-none pool s formed h all =
-      record {
-        formed = formed;
-        same-most = refl;
-        waits = sym (states-end ws e (pool .most) (e .split) s (entries (stateCount ws) pool) h)
-            ∙ from-split ws e (pool .most) s (entries (stateCount ws) pool)
-            ∙ ap (λ (n : ℕ). admittedFrom ws (pool .most) e 0 n (entries (stateCount ws) pool)) all;
-      }
 
   module _ {first : List Entry} {p s : ℕ} {pool : Pool} (start : Pool) (j : Joining ws (start .most) e first p s pool) where
     pub joins-next : (d : Child) (r : Pool) → p < s → ChildIs ws e p d
@@ -73,6 +63,24 @@ module _ (ws : Words) (e : Entry) where
           waits = sym (states-end ws e (start .most) p s (entries (stateCount ws) pool) h) ∙ j .joins
               ∙ ap (λ (n : ℕ). admittedFrom ws (start .most) e 0 n first) all;
         }
+
+-- ---- the first candidate of p, which leaves left when it is taken away
+
+module _ (ws : Words) {p left : Pool} (o : Popped p left) (same : left .most ≡ p .most) where
+  pub all-joined : {e : Entry} {r : Pool} → e ≡ firstEntry (stateCount ws) p
+      → Holding (stateCount ws) (admittedFrom ws (left .most) e 0 (stateCount ws) (entries (stateCount ws) left)) left r
+      → Holding (stateCount ws) (splitPool ws (p .most) (entries (stateCount ws) p)) p r
+  all-joined e h =
+      record {
+        formed = h .formed;
+        same-most = h .same-most ∙ same;
+        waits = h .waits ∙ (λ t. admittedFrom ws (same t) (e t) 0 (stateCount ws) (entries (stateCount ws) left))
+            ∙ sym (ap (splitPool ws (p .most)) (o .rest (stateCount ws)));
+      }
+
+pub parent-is : {e : Parent} {bs : Policy} (S : ℕ) (p : Pool) → ParentIs e (p .costs) (p .splits) (p .barred) (getD (p .order) 0 0)
+    → bs ≡ firstEntry S p .plan → entryOf e bs ≡ firstEntry S p
+parent-is S p h b = λ t. record { cost = h .cost-is t; plan = b t; split = h .split-is t; mask = h .mask-is t }
 
 -- ---- one child, or none
 

@@ -1,30 +1,25 @@
 -- The search, step by step: what is still to be listed, written over what stands there now, gives the result.
 -- Assumes nothing.
 use mathlib.Core.Path.{_≡_, refl, sym, ap, _∙_, subst}
-use mathlib.Core.Bool.{Bool, true, false, cond}
 use mathlib.Core.List.{List, [], _∷_, _++_, map}
 use Prim.Native.Nat.{ℕ, zero, suc, _+_, _*_, _-_, _≤_, _<_}
 use native.Mathlib.Nat.{zero-add, mul-le-mul-right}
-use native.Mathlib.Decide.{ℕ-discrete}
 use native.Mathlib.Omega.{arith}
-use borrow.Author.Tests.{eq-eqb, ne-eqb}
-use lib.Dec.{eqb}
 use lib.IntN.{ℤ}
 use lib.ListN.{length, set, getD, take, length-set, length-append, length-map}
 use Rattle.model.specs.Model.{Words, stateCount}
 use Rattle.model.specs.Questions.{bookNumber}
 use Rattle.model.specs.Calls.{over}
 use Rattle.laws.specs.Members.{Every}
-use Rattle.accepted.specs.Shape.{shape}
-use Rattle.value.proofs.Bytes.{policy-long}
+use Rattle.accepted.specs.Bytes.{policy-long}
 use Rattle.bytes_io.specs.Slices.{written}
 use Rattle.bytes_io.proofs.Parts.{written-none, set-written, written-front, length-written, written-join}
 use Rattle.stored.specs.Entry.{Entry}
 use Rattle.stored.specs.Children.{Right, plan-model, children-right}
 use Rattle.stored.specs.Runs.{childrenOf, runEntries, costIn, runs-are, admit-map}
 use Rattle.pool.specs.declared.Pool.{Pool}
-use Rattle.pool.specs.Entries.{Formed, entryAt, firstEntry, entries, Popped, Holding}
-use Rattle.engine.specs.Engine.{admittedFrom, splitPool, restPool, plansIn, Found}
+use Rattle.pool.specs.Entries.{Formed, entryAt, firstEntry, entries}
+use Rattle.engine.specs.Engine.{splitPool, plansIn, Found}
 
 -- ---- the pool as a list
 
@@ -35,29 +30,6 @@ first-of f (suc n) (x ∷ o) h k = (map f (take n o), refl)
 
 pub pool-first : (s : ℕ) (p : Pool) → Formed p → 1 ≤ p .count → (r : List Entry) × (entries s p ≡ firstEntry s p ∷ r)
 pool-first s p f h = first-of (entryAt s p) (p .count) (p .order) h (omega (arith, f .slots .long))
-
--- what waits after the first of p is listed and taken away, which leaves r
-module _ (ws : Words) (j : ℕ) (p r : Pool) (o : Popped p r) (same : r .most ≡ p .most) where
-  abbrev after : Bool → List Entry
-  after t = cond t (entries (stateCount ws) r) (splitPool ws (p .most) (firstEntry (stateCount ws) p ∷ entries (stateCount ws) r))
-
-  rest-is : (t : Bool) → eqb (j + 1) (p .most) ≡ t → restPool ws (p .most) j (entries (stateCount ws) p) ≡ after t
-  rest-is t e = ap (restPool ws (p .most) j) (o .rest (stateCount ws)) ∙ ap after e
-
-  pub rest-last : j + 1 ≡ p .most → Holding (stateCount ws) (restPool ws (p .most) j (entries (stateCount ws) p)) p r
-  rest-last h = record { formed = o .formed; same-most = same; waits = sym (rest-is true (eq-eqb (j + 1) (p .most) h)) }
-
-  pub rest-split : {e : Entry} (q : Pool) → e ≡ firstEntry (stateCount ws) p → (j + 1 ≡ p .most → ⊥)
-      → Holding (stateCount ws) (admittedFrom ws (r .most) e 0 (stateCount ws) (entries (stateCount ws) r)) r q
-      → Holding (stateCount ws) (restPool ws (p .most) j (entries (stateCount ws) p)) p q
-  rest-split q e h k =
-      record {
-        formed = k .formed;
-        same-most = k .same-most ∙ same;
-        waits = k .waits
-            ∙ (λ t. admittedFrom ws (same t) (e t) 0 (stateCount ws) (entries (stateCount ws) r))
-            ∙ sym (rest-is false (ne-eqb (j + 1) (p .most) h));
-      }
 
 pub pool-empty : (s : ℕ) (p : Pool) → p .count ≡ 0 → entries s p ≡ []
 pool-empty s p h = ap (λ (n : ℕ). map (entryAt s p) (take n (p .order))) h
@@ -78,7 +50,7 @@ module _ (ws : Words) (ok : bookNumber ws ≡ 0) (k : ℕ) where
   S = stateCount ws
 
   one-long : (e : Entry) → Right ws e → length (e .plan) ≡ S
-  one-long e r = policy-long ws ok (e .plan) (plan-model ws ok e r) 0 (shape ws ok .some-state)
+  one-long e r = policy-long ws ok (e .plan) (plan-model ws ok e r)
 
   plans-long : (es : List Entry) → Every (Right ws) es → length (plansIn es) ≡ length es * S
   plans-long [] h = omega arith
@@ -200,33 +172,16 @@ module _ (ws : Words) (ok : bookNumber ws ≡ 0) (k : ℕ) where
       pub first-right : Right ws (firstEntry S pool)
       first-right = subst (Every (Right ws)) (pool-first S pool formed some .1) (l .right) .0
 
-      pub pool-next : {es : List Entry} {cs : List ℤ} {ps : List ℕ} → j < k → k ≤ length costs₀ → k * S ≤ length plans₀ → es ≡ restPool ws k j
-          (entries S pool)
-          → cs ≡ set costs j (firstEntry S pool .cost) → ps ≡ written plans (j * S) S (firstEntry S pool .plan)
-          → Listing ws k first costs₀ plans₀ (j + 1) es cs ps
-      pool-next {es} {cs} {ps} more c-room p-room he hc hp =
-          listed-next (firstEntry S pool) (f .0) (subst (λ (es : List Entry). Listing ws k first costs₀ plans₀ j es costs plans) (f .1) l)
-          (he ∙ ap (restPool ws k j) (f .1)) hc hp
-        where
-          f : (r : List Entry) × (entries S pool ≡ firstEntry S pool ∷ r)
-          f = pool-first S pool formed some
+      module _ {cs : List ℤ} {ps : List ℕ} (more : j < k) (c-room : k ≤ length costs₀) (p-room : k * S ≤ length plans₀)
+          (hc : cs ≡ set costs j (firstEntry S pool .cost)) (hp : ps ≡ written plans (j * S) S (firstEntry S pool .plan)) where
+        pub pool-next : {es : List Entry} → es ≡ splitPool ws k (entries S pool) → Listing ws k first costs₀ plans₀ (j + 1) es cs ps
+        pool-next {es} he =
+            let f = pool-first S pool formed some in
+            next j (firstEntry S pool) (f .0) costs plans (subst (λ (es : List Entry). Listing ws k first costs₀ plans₀ j es costs plans) (f .1) l) more
+            (omega (arith, l .costs-long)) (omega (arith, l .plans-long′)) es cs ps (he ∙ ap (splitPool ws k) (f .1)) hc hp
 
-          listed-next : (e : Entry) (rest : List Entry) → Listing ws k first costs₀ plans₀ j (e ∷ rest) costs plans
-              → es ≡ restPool ws k j (e ∷ rest) → cs ≡ set costs j (e .cost) → ps ≡ written plans (j * S) S (e .plan)
-              → Listing ws k first costs₀ plans₀ (j + 1) es cs ps
-          listed-next e rest l′ he′ hc′ hp′ = go (ℕ-discrete (j + 1) k)
-            where
-              split : Listing ws k first costs₀ plans₀ (j + 1) (splitPool ws k (e ∷ rest)) cs ps
-              split = next j e rest costs plans l′ more (omega (arith, l .costs-long)) (omega (arith, l .plans-long′)) (splitPool ws k (e ∷ rest)) cs ps refl
-                  hc′ hp′
-
-              go : Dec (j + 1 ≡ k) → Listing ws k first costs₀ plans₀ (j + 1) es cs ps
-              go (yes last) =
-                  let all : k ≤ j + 1 = omega arith in
-                  let same : es ≡ rest = he′ ∙ ap (λ (t : Bool). cond t rest (splitPool ws k (e ∷ rest))) (eq-eqb (j + 1) k last) in
-                  swapped (j + 1) (splitPool ws k (e ∷ rest)) es cs ps
-                  (done (j + 1) (splitPool ws k (e ∷ rest)) all ∙ sym (done (j + 1) es all))
-                  (subst (Every (Right ws)) (sym same) (l′ .right .1)) split
-              go (no n) =
-                  subst (λ (es : List Entry). Listing ws k first costs₀ plans₀ (j + 1) es cs ps)
-                  (sym (he′ ∙ ap (λ (t : Bool). cond t rest (splitPool ws k (e ∷ rest))) (ne-eqb (j + 1) k n))) split
+        -- after the last none is split
+        pub pool-last : k ≤ j + 1 → Listing ws k first costs₀ plans₀ (j + 1) (entries S pool) cs ps
+        pool-last last =
+            swapped (j + 1) (splitPool ws k (entries S pool)) (entries S pool) cs ps
+            (done (j + 1) (splitPool ws k (entries S pool)) last ∙ sym (done (j + 1) (entries S pool) last)) (l .right) (pool-next refl)

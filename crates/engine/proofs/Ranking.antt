@@ -2,7 +2,7 @@
 -- Assumes nothing.
 use mathlib.Core.Path.{_≡_, refl, sym, ap, _∙_, subst}
 use mathlib.Core.List.{List, [], _∷_, map}
-use Prim.Native.Nat.{ℕ, _<_}
+use Prim.Native.Nat.{ℕ}
 use native.Mathlib.Omega.{arith}
 use lib.Dec.{lit<}
 use lib.IntN.{ℤ, pos}
@@ -17,6 +17,7 @@ use Rattle.model.specs.Path.{taken}
 use Rattle.model.specs.Calls.{over}
 use Rattle.laws.specs.Members.{Every}
 use Rattle.laws.specs.First.{first-cost}
+use Rattle.accepted.specs.Options.{Alive, state-alive}
 use Rattle.accepted.specs.Shape.{shape, togo-start, lists}
 use Rattle.accepted.specs.Demands.{bestPolicy, to-go-fits}
 use Rattle.book.proofs.Words.{fits64}
@@ -42,8 +43,8 @@ module _ (ws : Words) (ok : bookNumber ws ≡ 0) where
   pub cost-first : (q v : List ℤ) → TableOf ws q v → toZ w64 (ofZ w64 (getD v 0 (pos 0))) ≡ firstCandidate ws .cost
   cost-first q v t =
       ap (λ (z : ℤ). toZ w64 (ofZ w64 z))
-      (t .least-is 0 (omega arith) (shape ws ok .some-state)
-      ∙ sym (first-cost (scale ws) (stateCount ws) (action ws) (togo ws) (shape ws ok) (λ p. p < stateCount ws) (options ws) (lists ws ok)))
+      (t .least-is 0 (omega arith) (state-alive ws ok 0 (shape ws ok .some-state))
+      ∙ sym (first-cost (scale ws) (stateCount ws) (action ws) (togo ws) (shape ws ok) (Alive ws) (options ws) (lists ws ok)))
       ∙ read64 (costOf ws (bestPolicy ws)) (small .sfits)
 
   pub ranked : {m : ℕ} {es : List Entry} {costs costs′ : List ℤ} {plans plans′ : List ℕ} (k n : ℕ) → m ≡ k → es ≡ firstCandidate ws ∷ []

@@ -12,13 +12,12 @@ use Rattle.model.specs.Questions.{bookNumber}
 use Rattle.model.specs.Policy.{Policy, isPolicy}
 use Rattle.model.specs.Path.{byteAt}
 use Rattle.laws.specs.Members.{T-true}
-use Rattle.accepted.specs.Shape.{shape}
 use Rattle.accepted.specs.Demands.{bestPolicy, best-policy}
 use Rattle.build.specs.Best.{bestAt}
 use Rattle.build.specs.Walk.{walkBy, chosen}
 use Rattle.build.proofs.Split.{split-here, split-after}
 use Rattle.build.proofs.Walk.{walk-same, walk-greedy}
-use Rattle.value.proofs.Bytes.{policy-long}
+use Rattle.accepted.specs.Bytes.{policy-long}
 use Rattle.stored.specs.Entry.{Entry}
 use Rattle.pool.specs.declared.Pool.{Pool}
 use Rattle.pool.specs.Entries.{entries}
@@ -37,7 +36,7 @@ module _ (ws : Words) (ok : bookNumber ws ≡ 0) where
       at s (no n) = split-here (byteAt bs) 0 c (bestAt ws) s (zero-is s n) ∙ h ∙ ap (bestAt ws) (sym (zero-is s n))
 
   pub best-long : length (bestPolicy ws) ≡ stateCount ws
-  best-long = policy-long ws ok (bestPolicy ws) (T-true (isPolicy ws (bestPolicy ws)) (best-policy ws ok)) 0 (shape ws ok .some-state)
+  best-long = policy-long ws ok (bestPolicy ws) (T-true (isPolicy ws (bestPolicy ws)) (best-policy ws ok))
 
 -- the one entry of a pool, by what is equal to its parts
 pub first-alone : {s : ℕ} {x : ℤ} {bs : List ℕ} (P : Pool) (S : ℕ) (e : Entry) → s ≡ S → x ≡ e .cost → bs ≡ e .plan

@@ -1,12 +1,12 @@
 -- What the search asks of its parts and what each step makes of the pool.
 -- Assumes nothing.
 use mathlib.Core.Path.{_≡_}
-use mathlib.Core.Bool.{Bool, cond, not, _&&_}
+use mathlib.Core.Bool.{Bool, not, _&&_}
 use mathlib.Core.List.{List, [], _∷_, map}
-use Prim.Native.Nat.{ℕ, _+_, _*_, _≤_, _<_}
-use lib.IntN.{ℤ}
+use Prim.Native.Nat.{ℕ, _*_, _≤_}
+use lib.IntN.{ℤ, pos}
 use lib.Dec.{eqb}
-use lib.ListN.{length, set, take}
+use lib.ListN.{length, getD, take}
 use Rattle.model.specs.Lists.{forEach}
 use Rattle.model.specs.Order.{ranking, rankingCosts}
 use Rattle.model.specs.Calls.{over}
@@ -20,14 +20,14 @@ use Rattle.book.specs.declared.Sizes.{Sizes}
 use Rattle.index.specs.Index.{IndexOf}
 use Rattle.nexts.specs.Nexts.{NextsOf}
 use Rattle.build.specs.Best.{RowsOf, BestOf}
-use Rattle.bytes_io.specs.Slices.{written}
-use Rattle.pool.specs.Entries.{entries, firstEntry, Formed, beyondOf, Holding}
+use Rattle.pool.specs.Entries.{entries, firstEntry, Formed, beyondOf}
 use Rattle.pool.specs.declared.Pool.{Pool}
 use Rattle.splits.specs.Search.{admit}
 use Rattle.stored.specs.Entry.{Entry, earlierEntry}
 use Rattle.stored.specs.Children.{costOf, Right, childEntries}
-use Rattle.stored.specs.Runs.{itself, childrenOf, runEntries, planOf, costIn}
+use Rattle.stored.specs.Runs.{itself, childrenOf, planOf, costIn}
 use Rattle.child.specs.declared.Child.{Child}
+use Rattle.child.specs.declared.Parent.{Parent}
 
 -- a checked book with its sizes, its sets of next states, its table of action costs and its first best actions
 pub record Tables (ws : Words) (z : Sizes) (nx : List ℕ) (q : List ℤ) (best : List ℕ) : Type 0 where
@@ -60,25 +60,18 @@ abbrev pub splitPool : Words → ℕ → List Entry → List Entry
 splitPool ws k [] = []
 splitPool ws k (e ∷ es) = admit earlierEntry itself k (childrenOf ws e) es
 
--- the entries after the first was listed as policy j of k: after the last none is split
-abbrev pub restPool : Words → ℕ → ℕ → List Entry → List Entry
-restPool ws k j [] = []
-restPool ws k j (e ∷ es) = cond (eqb (j + 1) k) es (splitPool ws k (e ∷ es))
+-- e is the candidate of slot i
+pub record ParentIs (e : Parent) (costs : List ℤ) (splits barred : List ℕ) (i : ℕ) : Type 0 where
+  pub cost-is : e .cost ≡ getD costs i (pos 0)
+  pub split-is : e .split ≡ getD splits i 0
+  pub mask-is : e .mask ≡ getD barred i 0
 
--- what is asked where policy j is listed: some candidate waits, the first is right, and there is room for it
-pub record Listable (ws : Words) (j : ℕ) (p : Pool) (costs : List ℤ) (plans : List ℕ) : Type 0 where
+-- the first candidate of p can be split: bs are its bytes, and what is stored of it is right
+pub record Splittable (ws : Words) (bs : Policy) (p : Pool) : Type 0 where
   pub formed : Formed p
   pub some : 1 ≤ p .count
   pub right : Right ws (firstEntry (stateCount ws) p)
-  pub more : j < p .most
-  pub costs-room : j < length costs
-  pub plans-room : j * stateCount ws + stateCount ws ≤ length plans
-
--- the first candidate of p is listed as policy j, and r is what waits after it
-pub record ListedOne (ws : Words) (j : ℕ) (p r : Pool) (costs costs′ : List ℤ) (plans plans′ : List ℕ) : Type 0 where
-  pub pool-is : Holding (stateCount ws) (restPool ws (p .most) j (entries (stateCount ws) p)) p r
-  pub cost-is : costs′ ≡ set costs j (firstEntry (stateCount ws) p .cost)
-  pub plan-is : plans′ ≡ written plans (j * stateCount ws) (stateCount ws) (firstEntry (stateCount ws) p .plan)
+  pub bytes-are : bs ≡ firstEntry (stateCount ws) p .plan
 
 -- what the search asks: every candidate that waits is right, and there is room for as many as may wait
 pub record Searchable (ws : Words) (p : Pool) (costs : List ℤ) (plans : List ℕ) : Type 0 where

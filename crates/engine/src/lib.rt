@@ -11,17 +11,17 @@ use pool::Pool;
 ghost use mathlib.Core.Path.{_≡_};
 ghost use mathlib.Core.List.{[], _∷_};
 ghost use Prim.Native.Nat.{_+_, _*_, _<_, _≤_};
-ghost use lib.ListN.{length};
-ghost use Rattle.model.specs.Model.{stateCount, actionCount, action};
+ghost use lib.ListN.{length, getD};
+ghost use Rattle.model.specs.Model.{stateCount, action};
 ghost use Rattle.model.specs.Questions.{bookNumber};
+ghost use Rattle.accepted.specs.Options.{Option};
 ghost use Rattle.book.specs.Read.{SizesAre};
 ghost use Rattle.nexts.specs.Nexts.{NextsOf};
 ghost use Rattle.build.specs.Best.{BestOf};
 ghost use Rattle.build.specs.Walk.{walkBy, chosen, Usable, Walked};
-ghost use Rattle.child.specs.Children.{Parenting, entryOf};
 ghost use Rattle.pool.specs.Entries.{entries, Slots, Formed, Holding};
 ghost use Rattle.stored.specs.Runs.{runEntries};
-ghost use Rattle.engine.specs.Engine.{Tables, Ready, RowOf, mayEnter, admittedFrom, Listable, ListedOne, Searchable, Found, firstCandidate, Ranked};
+ghost use Rattle.engine.specs.Engine.{Ready, RowOf, mayEnter, splitPool, ParentIs, Splittable, Searchable, Found, firstCandidate, Ranked};
 
 fn zeros() -> [u8; 64]
     ensures { λ r. ⌜ length r ≡ 64 ⌝ }
@@ -41,7 +41,7 @@ fn row_of(
     c: usize,
     from: u64,
 ) -> [u8; 64]
-    requires { ⌜ (bookNumber (now b) ≡ 0) × SizesAre (now b) z × NextsOf (now b) (now nx) × BestOf (now b) (now best) × Usable (now b) (now plan) p × (p < stateCount (now b)) × (c < actionCount (now b) p) × Walked (now b) (now plan) p from ⌝ }
+    requires { ⌜ (bookNumber (now b) ≡ 0) × SizesAre (now b) z × NextsOf (now b) (now nx) × BestOf (now b) (now best) × Usable (now b) (now plan) p × (p < stateCount (now b)) × Option (now b) p c × Walked (now b) (now plan) p from ⌝ }
     ensures { λ r. ⌜ RowOf (walkBy (action (now (b .entry))) (chosen (now (b .entry)) (now (plan .entry)) p c) (stateCount (now (b .entry))) 0 (0 ∷ [])) r ⌝ }
 {
     let s = z.s;
@@ -61,31 +61,50 @@ fn may_enter<'a>(costs: &'a [i64; 64], order: &'a [u8; 64], n: usize, k: usize, 
     !pool::beyond(costs, order, n, k, d.cost)
 }
 
-// The children of e, whose bytes are `plan` and whose reach weights are w, join those that wait.
-fn split(
+// The first candidate that waits, but for its bytes.
+fn first_of<'a>(
+    costs: &'a [i64; 64],
+    splits: &'a [u8; 64],
+    barred: &'a [u8; 64],
+    order: &'a [u8; 64],
+) -> Parent
+    requires { ⌜ Slots (now order) ⌝ }
+    ensures { λ r. ⌜ ParentIs r (now (costs .entry)) (now (splits .entry)) (now (barred .entry)) (getD (now (order .entry)) 0 0) ⌝ }
+{
+    let slot = pool::slot_at(order, 0);
+    let cost = costs[slot];
+    Parent {
+        cost: cost,
+        split: pool::wide(splits[slot]),
+        mask: barred[slot],
+    }
+}
+
+// The first candidate, whose bytes are `plan`, is taken away, and its children join the others: at each state from its split state on there is at most one.
+fn split_first(
     b: &[i32],
     z: Sizes,
+    x: &[usize; 192],
     nx: &[u64; 512],
     q: &[i64; 512],
     best: &[usize; 64],
-    w: &[usize; 64],
     plan: &[u8],
-    e: Parent,
-    start: Pool,
+    mut pool: Pool,
 ) -> Pool
-    requires { ⌜ Tables (now b) z (now nx) (now q) (now best) × Parenting (now b) e (now plan) (now w) × Formed start ⌝ }
-    ensures { λ r. ⌜ Holding (stateCount (now (b .entry))) (admittedFrom (now (b .entry)) (start .most) (entryOf e (now (plan .entry))) 0 (stateCount (now (b .entry))) (entries (stateCount (now (b .entry))) start)) start r ⌝ }
+    requires { ⌜ Ready (now b) z (now x) (now nx) (now q) (now best) × Splittable (now b) (now plan) pool ⌝ }
+    ensures { λ r. ⌜ Holding (stateCount (now (b .entry))) (splitPool (now (b .entry)) (pool .most) (entries (stateCount (now (b .entry))) pool)) pool r ⌝ }
 {
     let s = z.s;
-    let k = start.most;
-    let mut pool = start;
+    let k = pool.most;
+    let e = first_of(&pool.costs, &pool.splits, &pool.barred, &pool.order);
+    let count = pool.count;
+    pool::move_back(&mut pool.order, count);
+    pool.count = count - 1;
+    let w = reach::reach_weights(b, z, x, plan);
     let mut p = e.split;
-    if s <= p {
-        return pool;
-    }
     let mut reach = build::reached_before(b, nx, plan, p);
     while p < s {
-        let d = child::child_at(b, z, q, w, plan, e, p);
+        let d = child::child_at(b, z, q, &w, plan, e, p);
         let cost = d.cost;
         let state = p;
         let from = reach;
@@ -110,46 +129,7 @@ fn split(
     pool
 }
 
-// Lists the first policy of the first candidate that waits as policy j, and splits the candidate, unless that was the last policy to be listed.
-fn list_one(
-    b: &[i32],
-    z: Sizes,
-    x: &[usize; 192],
-    nx: &[u64; 512],
-    q: &[i64; 512],
-    best: &[usize; 64],
-    start: Pool,
-    j: usize,
-    costs: &mut [i64],
-    plans: &mut [u8],
-) -> Pool
-    requires { ⌜ Ready (now b) z (now x) (now nx) (now q) (now best) × Listable (now b) j start (now costs) (now plans) ⌝ }
-    ensures { λ r. ⌜ ListedOne (now (b .entry)) j start r (now (costs .entry)) (now (costs .exit)) (now (plans .entry)) (now (plans .exit)) ⌝ }
-{
-    let s = z.s;
-    let at = j * s;
-    let to = at + s;
-    let n = start.count;
-    let mut pool = start;
-    let slot = pool::slot_at(&pool.order, 0);
-    let cost = pool.costs[slot];
-    costs[j] = cost;
-    pool::read_row(&pool.plans, slot, s, &mut plans[at..to]);
-    pool::move_back(&mut pool.order, n);
-    pool.count = n - 1;
-    if j + 1 == pool.most {
-        return pool;
-    }
-    let w = reach::reach_weights(b, z, x, &plans[at..to]);
-    let e = Parent {
-        cost: cost,
-        split: pool::wide(pool.splits[slot]),
-        mask: pool.barred[slot],
-    };
-    split(b, z, nx, q, best, &w, &plans[at..to], e, pool)
-}
-
-// The first policies by the search from the pool `start`, as many as may wait in it; gives how many there are.
+// The first policies by the search from the pool, as many as may wait in it; gives how many there are. The last that is listed is not split.
 fn search(
     b: &[i32],
     z: Sizes,
@@ -157,22 +137,30 @@ fn search(
     nx: &[u64; 512],
     q: &[i64; 512],
     best: &[usize; 64],
-    start: Pool,
+    mut pool: Pool,
     costs: &mut [i64],
     plans: &mut [u8],
 ) -> usize
-    requires { ⌜ Ready (now b) z (now x) (now nx) (now q) (now best) × Searchable (now b) start (now costs) (now plans) ⌝ }
-    ensures { λ r. ⌜ Found (runEntries (now (b .entry)) (start .most) (start .most) (entries (stateCount (now (b .entry))) start)) r (now (costs .entry)) (now (costs .exit)) (now (plans .entry)) (now (plans .exit)) ⌝ }
+    requires { ⌜ Ready (now b) z (now x) (now nx) (now q) (now best) × Searchable (now b) pool (now costs) (now plans) ⌝ }
+    ensures { λ r. ⌜ Found (runEntries (now (b .entry)) (pool .most) (pool .most) (entries (stateCount (now (b .entry))) pool)) r (now (costs .entry)) (now (costs .exit)) (now (plans .entry)) (now (plans .exit)) ⌝ }
 {
-    let k = start.most;
-    let mut pool = start;
+    let k = pool.most;
+    let s = z.s;
     let mut j: usize = 0;
     while j < k {
         if pool.count == 0 {
             return j;
         }
-        pool = list_one(b, z, x, nx, q, best, pool, j, costs, plans);
+        let slot = pool::slot_at(&pool.order, 0);
+        let cost = pool.costs[slot];
+        costs[j] = cost;
+        let at = j * s;
+        let to = at + s;
+        pool::read_row(&pool.plans, slot, s, &mut plans[at..to]);
         j = j + 1;
+        if j < k {
+            pool = split_first(b, z, x, nx, q, best, &plans[at..to], pool);
+        }
     }
     j
 }

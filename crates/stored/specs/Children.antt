@@ -21,9 +21,10 @@ use Rattle.laws.specs.Policies.{IsPolicy, Reads, reads}
 use Rattle.laws.specs.First.{Lists, costFrom0, firstPolicy, is-policy}
 use Rattle.accepted.specs.Options.{Option, Alive}
 use Rattle.accepted.specs.Shape.{shape, policy-is}
+use Rattle.accepted.specs.Bytes.{policy-long}
 use Rattle.accepted.specs.Demands.{other-byte}
 use Rattle.sets.specs.Sets.{with, free-all}
-use Rattle.splits.specs.Parts.{without, part, split-lt, split-eq, split-gt, Reaches, sound}
+use Rattle.splits.specs.Parts.{without, part, split-lt, split-eq, split-gt, Reaches, reaches-is, sound}
 use Rattle.splits.specs.Kbest.{addChild, childrenFrom, childAt, children, child-lists}
 use Rattle.splits.specs.ChildCost.{child-front}
 use Rattle.stored.specs.Entry.{Entry}
@@ -41,6 +42,7 @@ pub record Right (ws : Words) (e : Entry) : Type 0 where
   pub lists : Lists (Alive ws) (action ws) (listsOf ws e)
   pub plan-is : e .plan ≡ firstOf ws (listsOf ws e)
   pub cost-is : e .cost ≡ costOf ws (e .plan)
+  pub split-state : e .split < stateCount ws
   -- the policies of its lists are the model's
   pub among : (u : Policy) → IsPolicy (action ws) (listsOf ws e) (stateCount ws) 0 (0 ∷ []) u
       → IsPolicy (action ws) (options ws) (stateCount ws) 0 (0 ∷ []) u
@@ -143,6 +145,7 @@ module _ (ws : Words) (ok : bookNumber ws ≡ 0) (e : Entry) (ri : Right ws e) w
               (child-lists (scale ws) (stateCount ws) (action ws) (togo ws) (shape ws ok) (Alive ws) (listsOf ws e) (ri .lists) p (some′ .0) (some′ .1));
           plan-is = ap (firstOf ws) (sym child-is);
           cost-is = refl;
+          split-state = omega (arith, reaches-is (action ws) (shape ws ok .later) p 0 (0 ∷ []) (e .plan) .0 reached .2, policy-long ws ok (e .plan) plan-model);
           among = λ u h. ri .among u
               (sound (action ws) (listsOf ws e) (byteAt (firstOf ws (listsOf ws e))) p (stateCount ws) 0 (0 ∷ []) (firstOf ws (listsOf ws e)) u
               (subst (IsPolicy (action ws) (listsOf ws e) (stateCount ws) 0 (0 ∷ [])) (ri .plan-is) plan-policy) (reads (firstOf ws (listsOf ws e))) reached′

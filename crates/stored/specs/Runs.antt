@@ -131,6 +131,7 @@ module _ (ws : Words) (ok : bookNumber ws ≡ 0) where
         lists = subst (Lists (Alive ws) (action ws)) (sym start-lists) (lists ws ok);
         plan-is = ap (firstOf ws) (sym start-lists);
         cost-is = refl;
+        split-state = shape ws ok .some-state;
         among = λ u h. subst (λ (os : ℕ → List ℕ). IsPolicy (action ws) os (stateCount ws) 0 (0 ∷ []) u) start-lists h;
       }
 

@@ -1,19 +1,20 @@
 -- The first best actions make the first policy, and it waits alone.
 -- Assumes nothing.
 use mathlib.Core.Path.{_≡_, sym, _∙_, subst}
-use mathlib.Core.List.{List, [], _∷_}
-use Prim.Native.Nat.{ℕ, _≤_, _<_}
+use mathlib.Core.List.{List}
+use Prim.Native.Nat.{ℕ, _≤_}
 use native.Mathlib.Omega.{arith}
-use lib.ListN.{length, getD, take}
-use Rattle.model.specs.Model.{Words, stateCount, actionCount, action}
+use lib.ListN.{getD}
+use Rattle.model.specs.Model.{Words, stateCount}
 use Rattle.accepted.specs.Facts.{accepted}
+use Rattle.accepted.specs.Options.{Option, state-alive}
 use Rattle.accepted.specs.Shape.{shape}
 use Rattle.accepted.specs.Demands.{bestPolicy}
 use Rattle.costs.proofs.Sums.{read64}
 use Rattle.build.proofs.Pass.{first-set}
 use Rattle.build.proofs.Prefix.{walked-none}
 use Rattle.build.specs.Best.{bestAt}
-use Rattle.build.proofs.Best.{best-at-below}
+use Rattle.build.proofs.Best.{best-option}
 use Rattle.engine.specs.Engine.{RowOf, firstCandidate}
 use Rattle.engine.proofs.Parts.{row-take}
 use Rattle.engine.proofs.Start.{first-walk, best-long, first-alone}
@@ -49,7 +50,7 @@ row-of-requires c κs =
       h .3,
       (λ i l. absurd (omega arith)),
       shape (ws s) (h .0) .some-state,
-      subst (λ (n : ℕ). n < actionCount (ws s) 0) (sym (best-first s)) (best-at-below (ws s) 0 (h .0) (shape (ws s) (h .0) .some-state)),
+      subst (Option (ws s) 0) (sym (best-first s)) (best-option (ws s) 0 (state-alive (ws s) (h .0) 0 (shape (ws s) (h .0) .some-state))),
       walked-none (ws s) (c .before .zeros .result) 1 first-set,
     )
 
