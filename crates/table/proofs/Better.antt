@@ -4,14 +4,14 @@ use mathlib.Core.Path.{_≡_, refl, sym, ap, _∙_}
 use mathlib.Core.Bool.{Bool, true, false, not, cond}
 use mathlib.Core.Logic.{inl, inr}
 use mathlib.Core.List.{List, [], _∷_}
-use Prim.Native.Nat.{ℕ, zero, suc, _+_, _-_, _≤_, _<_}
+use Prim.Native.Nat.{ℕ, suc, _+_, _-_, _≤_, _<_}
 use native.Mathlib.Numerals.{add-one}
 use native.Mathlib.Decide.{decLt}
 use native.Mathlib.Omega.{arith}
 use borrow.Author.Tests.{ne-eqb, le-leb, lt-leb, lt-ltb, le-ltb}
 use lib.Dec.{eqb, leb, ltb}
 use lib.IntN.{ℤ, pos, negsuc}
-use lib.Signed.{leZ, ltZ, leZ-yes, _≤ℤ_, _<ℤ_, <ℤ-≤ℤ-trans, clashℤ}
+use lib.Signed.{leZ, ltZ, leZ-yes, <ℤ-≤ℤ-trans, clashℤ}
 use Rattle.model.specs.Lists.{upFrom}
 use Rattle.model.specs.Recursion.{pick, firstLeast, bestOf}
 use Rattle.laws.specs.Int.{≤ℤ-trans, leZ-no, <→≤}

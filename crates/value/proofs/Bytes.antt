@@ -8,7 +8,7 @@ use Prim.Native.Nat.{ℕ, zero, suc, _^_, _≤_, _<_}
 use native.Mathlib.Omega.{arith}
 use borrow.Author.Tests.{le-ltb}
 use lib.Dec.{T-not, ltb}
-use lib.IntN.{ℤ, pos, _+ℤ_, _*ℤ_, *ℤ-zero}
+use lib.IntN.{ℤ, pos, _+ℤ_, *ℤ-zero}
 use lib.ListN.{length, getD}
 use Rattle.model.specs.Lists.{isIn}
 use Rattle.model.specs.Model.{Words, scale, stateCount, togo, actionCount, action, noAction}
