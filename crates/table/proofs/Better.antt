@@ -11,7 +11,7 @@ use native.Mathlib.Omega.{arith}
 use borrow.Author.Tests.{ne-eqb, le-leb, lt-leb, lt-ltb, le-ltb}
 use lib.Dec.{eqb, leb, ltb}
 use lib.IntN.{ℤ, pos, negsuc}
-use lib.Signed.{leZ, ltZ, leZ-yes, _≤ℤ_, _<ℤ_, <ℤ-≤ℤ-trans, clashℤ}
+use lib.Signed.{leZ, ltZ, leZ-yes, <ℤ-≤ℤ-trans, clashℤ}
 use Rattle.model.specs.Lists.{upFrom}
 use Rattle.model.specs.Recursion.{pick, firstLeast, bestOf}
 use Rattle.laws.specs.Int.{≤ℤ-trans, leZ-no, <→≤}
