@@ -42,7 +42,7 @@ module _ (ws : Words) where
   -- ---- an action and its transitions, as read
 
   -- what holds of no action, and of action c of state p as it is read where the state has it, holds of `action ws p c`
-  pub by-action : (P : Action → Type 0) (p c : ℕ) → P noAction
+  by-action : (P : Action → Type 0) (p c : ℕ) → P noAction
       → (p < stateCount ws → c < actionCount ws p → P (readAction ws (stage ws p) (actionLine ws p c))) → P (action ws p c)
   unfolding action
   by-action P p c none some = go (ltb p (stateCount ws)) refl (ltb c (actionCount ws p)) refl
@@ -224,7 +224,7 @@ module _ (ws : Words) (ok : bookNumber ws ≡ 0) where
   }
 
   -- "does each choice's sum to exactly D (before stage H)?"
-  pub weights-full : (p c : ℕ) → p < stateCount ws → c < actionCount ws p → stage ws p < horizon ws
+  weights-full : (p c : ℕ) → p < stateCount ws → c < actionCount ws p → stage ws p < horizon ws
       → weightsOf (action ws p c .transitions) ≡ scale ws
   weights-full p c l k h =
       rw (action-is ws p c l k, weights-read ws (stage ws p) (actionLine ws p c))

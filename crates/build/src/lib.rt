@@ -8,7 +8,7 @@ ghost use Rattle.model.specs.Model.{stateCount, action};
 ghost use Rattle.model.specs.Questions.{bookNumber};
 ghost use Rattle.model.specs.Path.{byteAt};
 ghost use Rattle.accepted.specs.Options.{Option};
-ghost use Rattle.book.specs.Read.{SizesAre};
+ghost use Rattle.index.specs.Index.{Checked};
 ghost use Rattle.nexts.specs.Nexts.{NextsOf};
 ghost use Rattle.build.specs.Best.{RowsOf, BestOf};
 ghost use Rattle.build.specs.Walk.{walkBy, splitBy, chosen, ActionOrNone, Usable, Stepped, Walked, Own, Passed};
@@ -21,7 +21,7 @@ fn zeros() -> [usize; 64]
 
 // The first best action of every state, by the table q of the costs of its actions.
 pub fn best_actions(b: &[i32], z: Sizes, q: &[i64; 512]) -> [usize; 64]
-    requires { ⌜ (bookNumber (now b) ≡ 0) × SizesAre (now b) z × RowsOf (now b) (now q) ⌝ }
+    requires { ⌜ Checked (now b) z × RowsOf (now b) (now q) ⌝ }
     ensures { λ r. ⌜ BestOf (now (b .entry)) r ⌝ }
 {
     let s = z.s;

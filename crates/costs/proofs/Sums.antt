@@ -1,20 +1,20 @@
 -- Sums of weighted costs: what fits, and how a loop takes them from the front.
 -- Assumes nothing.
 use mathlib.Core.Path.{_≡_, sym, _∙_}
-use mathlib.Core.List.{[], _∷_}
-use Prim.Native.Nat.{ℕ, suc, _+_, _*_, _-_, _^_, _≤_, _<_}
-use native.Mathlib.Numerals.{add-one}
+use mathlib.Core.List.{List, [], _∷_}
+use Prim.Native.Nat.{ℕ, _+_, _*_, _^_, _≤_, _<_}
 use native.Mathlib.Omega.{arith}
 use lib.Dec.{lit<}
-use lib.IntN.{ℤ, pos, natAbs, _+ℤ_, _*ℤ_, +ℤ-assoc, +ℤ-idl}
+use lib.IntN.{ℤ, pos, natAbs, _+ℤ_, _*ℤ_, +ℤ-assoc, +ℤ-idl, +ℤ-idr}
 use mir.Syntax.{w64}
 use mir.Val.{SFits, toZ, ofZ}
 use mir.Facts.{toZ-ofZ}
 use lib.Signed.{mag}
-use Rattle.model.specs.Model.{Words}
+use Rattle.model.specs.Model.{Transition}
+use Rattle.model.specs.Recursion.{expected}
 use Rattle.laws.specs.Int.{abs-add, abs-mul}
 use Rattle.book.proofs.Words.{fits64}
-use Rattle.costs.specs.Terms.{term, terms}
+use Rattle.costs.specs.Terms.{absExpected}
 
 pub read64 : (z : ℤ) → mag z < 2 ^ 63 → toZ w64 (ofZ w64 z) ≡ z
 read64 z h = toZ-ofZ (record { sfits = h })
@@ -29,21 +29,31 @@ module _ (acc : ℤ) (w : ℕ) (v : ℤ) (h : natAbs acc + w * natAbs v ≤ 4000
   pub sum-fits : SFits w64 (acc +ℤ pos w *ℤ v)
   sum-fits = fits64 4000000000000000000 (acc +ℤ pos w *ℤ v) (omega (arith, sum-small)) (lit< tt)
 
-pub weight-fits : (w : ℕ) → w ≤ 10000000000000000 → SFits w64 (pos w)
-weight-fits w h = fits64 10000000000000000 (pos w) h (lit< tt)
+-- ---- one transition after another
 
--- ---- one term from the front
+-- acc is `total` but for what is expected of the transitions that are left
+pub record Summed (v : ℕ → ℤ) (total acc : ℤ) (left : List Transition) : Type 0 where
+  pub room : natAbs acc + absExpected v left ≤ 4000000000000000000
+  pub rest : total ≡ acc +ℤ expected v left
 
-module _ (ws : Words) (at l base i r : ℕ) (more : i < r) where
-  pub terms-step : terms ws at l base i (r - i) ≡ term ws at l base i ∷ terms ws at l base (i + 1) (r - (i + 1))
-  terms-step = let e : r - i ≡ suc (r - (i + 1)) = omega arith in rw (e, add-one i)
+module _ {v : ℕ → ℤ} {total acc : ℤ} {left : List Transition} (h : Summed v total acc left) where
+  module _ {q w : ℕ} {after : List Transition} (e : left ≡ record { next = q; weight = w } ∷ after) where
+    here : natAbs acc + (w * natAbs (v q) + absExpected v after) ≤ 4000000000000000000
+    here = rw e at (h .room)
 
-pub terms-end : (ws : Words) (at l base i r : ℕ) → r ≤ i → terms ws at l base i (r - i) ≡ []
-terms-end ws at l base i r h = let e : r - i ≡ 0 = omega arith in rw e
+    pub one-small : natAbs acc + w * natAbs (v q) ≤ 4000000000000000000
+    one-small = omega (arith, here)
 
--- what stands to come after one term more
-pub one-more : (a x rest total : ℤ) → total ≡ a +ℤ (x +ℤ rest) → total ≡ (a +ℤ x) +ℤ rest
-one-more a x rest total e = e ∙ sym (+ℤ-assoc a x rest)
+    pub one-summed : (y : ℤ) → y ≡ acc +ℤ pos w *ℤ v q → Summed v total y after
+    one-summed y f =
+        rw f
+        (record {
+          room = omega (arith, here, sum-small acc w (v q) one-small);
+          rest = (rw e at (h .rest)) ∙ sym (+ℤ-assoc acc (pos w *ℤ v q) (expected v after));
+        })
+
+  pub all-summed : left ≡ [] → acc ≡ total
+  all-summed e = sym ((rw (e, +ℤ-idr acc) at (h .rest)))
 
 -- ---- the first term: a cost against its unit
 

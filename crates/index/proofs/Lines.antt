@@ -1,30 +1,38 @@
 -- Lines of an accepted book lie within its columns.
 -- Assumes nothing.
 use mathlib.Core.Path.{_≡_, refl}
-use Prim.Native.Nat.{ℕ, _+_, _≤_, _<_}
+use Prim.Native.Nat.{ℕ, _+_, _*_, _≤_}
 use native.Mathlib.Numerals.{add-one}
 use native.Mathlib.Omega.{arith}
-use Rattle.model.specs.Model.{Words, lineCount, stateCount, stateLine, actionCount, branches, lineAfter, skip, actionLine}
+use lib.ListN.{length}
+use Rattle.model.specs.Model.{Words, lineCount, stateLine, actionCount, branches, lineAfter, skip, actionLine}
 use Rattle.model.specs.Questions.{bookNumber}
 use Rattle.accepted.specs.Facts.{accepted}
 use Rattle.book.specs.Read.{Headed}
+use Rattle.book.specs.declared.Sizes.{Sizes}
+use Rattle.index.specs.Index.{Checked, ActionAt}
 
-module _ (ws : Words) (ok : bookNumber ws ≡ 0) (p : ℕ) (s : p < stateCount ws) where
-  -- the lines of action c
-  pub lines-inside : (c : ℕ) → c < actionCount ws p → actionLine ws p c + 1 + branches ws (actionLine ws p c) ≤ lineCount ws
-  unfolding lineAfter
-  lines-inside c h = accepted ws ok .lines-fit p c s h
+-- the words of the action whose first line is line j are there
+pub record Inside (ws : Words) (z : Sizes) (j : ℕ) : Type 0 where
+  pub fit : j + 1 + branches ws j ≤ z .l
+  pub exact : length ws ≡ z .columns + 2 * z .l
+  pub short : length ws ≤ 4172
 
-  pub first-inside : (c : ℕ) → c < actionCount ws p → actionLine ws p c < lineCount ws
-  first-inside c h = omega (arith, lines-inside c h)
+pub lines-inside : (ws : Words) (z : Sizes) (p c j : ℕ) → Checked ws z → ActionAt ws p c j → Inside ws z j
+unfolding lineAfter
+lines-inside ws z p c j k a =
+    let s = accepted ws (k .ok) .sizes in
+    let fit : j + 1 + branches ws j ≤ lineCount ws = rw (a .line-is) (accepted ws (k .ok) .lines-fit p c (a .state) (a .action)) in
+    record { fit = omega arith; exact = omega arith; short = omega arith }
 
 pub line-start : (ws : Words) (p : ℕ) → actionLine ws p 0 ≡ stateLine ws p
 unfolding actionLine skip
 line-start ws p = refl
 
-pub line-next : (ws : Words) (p c : ℕ) → actionLine ws p (c + 1) ≡ lineAfter ws (actionLine ws p c)
-unfolding actionLine skip
-line-next ws p c = rw add-one
+-- the line after those of action c
+pub line-next : (ws : Words) (p c j : ℕ) → j ≡ actionLine ws p c → j + 1 + branches ws j ≡ actionLine ws p (c + 1)
+unfolding actionLine skip lineAfter
+line-next ws p c j e = rw (e, add-one c)
 
 pub state-next : (ws : Words) (p : ℕ) → stateLine ws (p + 1) ≡ actionLine ws p (actionCount ws p)
 unfolding actionLine stateLine

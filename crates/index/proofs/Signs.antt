@@ -1,6 +1,6 @@
 -- No number of transitions, next state or weight of an accepted book is below 0.
 -- Assumes nothing.
-use mathlib.Core.Path.{_≡_, refl, ap}
+use mathlib.Core.Path.{_≡_, refl}
 use mathlib.Core.Bool.{Bool, true, false, cond}
 use mathlib.Core.Logic.{_⊎_, inl, inr}
 use Prim.Native.Nat.{ℕ, zero, suc, _+_, _<_}
@@ -13,10 +13,9 @@ use Rattle.model.specs.Model.{Words, word, scale, horizon, stateCount, stage, a
 use Rattle.model.specs.Questions.{inside, branchesAllowed, nextBefore, nextsAllowed, weightsAllowed, bookNumber}
 use Rattle.questions.specs.Ranges.{and-true, all-at}
 use Rattle.accepted.specs.Facts.{accepted}
-use Rattle.book.specs.Read.{SizesAre}
 use Rattle.book.specs.declared.Sizes.{Sizes}
-use Rattle.book.proofs.Columns.{left-is, right-is}
-use Rattle.index.specs.Index.{NotBelow0}
+use Rattle.book.proofs.Columns.{left-is}
+use Rattle.index.specs.Index.{NotBelow0, Checked, ActionAt}
 
 -- what is lo or more
 from-up : (lo : ℕ) (hi z : ℤ) → inside (pos lo) hi z ≡ true → NotBelow0 z
@@ -37,7 +36,7 @@ module _ (ws : Words) (ok : bookNumber ws ≡ 0) (p : ℕ) (hp : p < stateCount 
   abbrev line : ℕ
   line = actionLine ws p c
 
-  pub first-up : NotBelow0 (left ws line)
+  first-up : NotBelow0 (left ws line)
   unfolding branchesAllowed
   first-up = go (eqb (stage ws p) (horizon ws)) (and-true _ _ (accepted ws ok .branches-allowed p c hp hc) .0)
     where
@@ -49,26 +48,17 @@ module _ (ws : Words) (ok : bookNumber ws ≡ 0) (p : ℕ) (hp : p < stateCount 
   unfolding nextsAllowed
   nexts-rise i h = and-true _ _ (all-at (branches ws line) _ (accepted ws ok .nexts-allowed p c hp hc) i h) .0
 
-  nexts-up : (i : ℕ) → i < branches ws line → NotBelow0 (left ws (line + 1 + i))
+  pub nexts-up : (i : ℕ) → i < branches ws line → NotBelow0 (left ws (line + 1 + i))
   nexts-up zero h = above (negsuc 0) _ (inl refl) (nexts-rise zero h)
   nexts-up (suc i) h = above (left ws (line + 1 + i)) _ (inr (nexts-up i (omega arith))) (nexts-rise (suc i) h)
 
-  weights-up : (i : ℕ) → i < branches ws line → NotBelow0 (right ws (line + 1 + i))
+  pub weights-up : (i : ℕ) → i < branches ws line → NotBelow0 (right ws (line + 1 + i))
   unfolding weightsAllowed
   weights-up i h =
       from-up 1 (pos (scale ws)) _
       (all-at (branches ws line) _ (and-true _ _ (accepted ws ok .weights-allowed p c hp hc) .0) i h)
 
-  -- by their words, where the action's first line is line j
-  module _ (z : Sizes) (are : SizesAre ws z) (j : ℕ) (at : j ≡ line) where
-    inside-line : (i : ℕ) → i < branches ws j → i < branches ws line
-    inside-line i h = omega (arith, h, ap (branches ws) at)
-
-    pub line-up : (k : ℕ) → k ≡ z .columns + j → NotBelow0 (word ws k)
-    line-up k e = rw (left-is ws z are j k e, at) first-up
-
-    pub next-up : (i k : ℕ) → i < branches ws j → k ≡ z .columns + j + 1 + i → NotBelow0 (word ws k)
-    next-up i k h e = rw (left-is ws z are (line + 1 + i) k (omega (arith, e, at))) (nexts-up i (inside-line i h))
-
-    pub weight-up : (i k : ℕ) → i < branches ws j → k ≡ z .columns + j + 1 + z .l + i → NotBelow0 (word ws k)
-    weight-up i k h e = rw (right-is ws z are (line + 1 + i) k (omega (arith, e, at))) (weights-up i (inside-line i h))
+-- the word of an action's first line, which is r
+pub line-up : (ws : Words) (z : Sizes) (p c j : ℕ) → Checked ws z → ActionAt ws p c j → NotBelow0 (word ws (z .columns + j))
+line-up ws z p c j k a =
+    rw (left-is ws z (k .sizes) j (z .columns + j) refl, a .line-is) (first-up ws (k .ok) p (a .state) c (a .action))

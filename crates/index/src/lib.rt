@@ -2,12 +2,11 @@
 use book::Sizes;
 use book::Stage;
 ghost use mathlib.Core.Path.{_≡_};
-ghost use Prim.Native.Nat.{_<_, _≤_};
+ghost use Prim.Native.Nat.{_+_, _<_, _≤_};
 ghost use lib.ListN.{length};
-ghost use Rattle.model.specs.Model.{word, left, lineCount, stateCount, stateLine, actionCount, lineAfter, actionLine};
-ghost use Rattle.model.specs.Questions.{bookNumber};
-ghost use Rattle.book.specs.Read.{SizeIs, SizesAre};
-ghost use Rattle.index.specs.Index.{NotBelow0, IndexTo, IndexOf};
+ghost use Rattle.model.specs.Model.{word, stateCount, stateLine, actionCount, actionLine};
+ghost use Rattle.book.specs.Read.{SizeIs};
+ghost use Rattle.index.specs.Index.{NotBelow0, Checked, ActionAt, Indexed};
 
 // Word i, which is not below 0. Checking has looked at the signs, so no pass after it has to.
 pub fn plain_at(b: &[i32], i: usize) -> usize
@@ -17,23 +16,23 @@ pub fn plain_at(b: &[i32], i: usize) -> usize
     b[i] as usize
 }
 
-// The line after those of the action whose first line is line j.
-pub fn line_after(b: &[i32], z: Sizes, j: usize) -> usize
-    requires { ⌜ (bookNumber (now b) ≡ 0) × SizesAre (now b) z × (j < lineCount (now b)) × NotBelow0 (left (now b) j) ⌝ }
-    ensures { λ r. ⌜ r ≡ lineAfter (now (b .entry)) j ⌝ }
+// The line after those of action c of state p, whose first line is line j.
+pub fn line_after(b: &[i32], z: Sizes, p: usize, c: usize, j: usize) -> usize
+    requires { ⌜ Checked (now b) z × ActionAt (now b) p c j ⌝ }
+    ensures { λ r. ⌜ r ≡ actionLine (now (b .entry)) p (c + 1) ⌝ }
 {
     j + 1 + plain_at(b, z.columns + j)
 }
 
 // The first line of action c of state p, whose first line is `line`; for c = its number of actions, that of the next state.
 pub fn action_line(b: &[i32], z: Sizes, p: usize, line: usize, c: usize) -> usize
-    requires { ⌜ (bookNumber (now b) ≡ 0) × SizesAre (now b) z × (p < stateCount (now b)) × (line ≡ stateLine (now b) p) × (c ≤ actionCount (now b) p) ⌝ }
+    requires { ⌜ Checked (now b) z × (p < stateCount (now b)) × (line ≡ stateLine (now b) p) × (c ≤ actionCount (now b) p) ⌝ }
     ensures { λ r. ⌜ r ≡ actionLine (now (b .entry)) p c ⌝ }
 {
     let mut j = line;
     let mut d: usize = 0;
     while d < c {
-        j = line_after(b, z, j);
+        j = line_after(b, z, p, d, j);
         d = d + 1;
     }
     j
@@ -41,7 +40,7 @@ pub fn action_line(b: &[i32], z: Sizes, p: usize, line: usize, c: usize) -> usiz
 
 // How many actions state p has.
 pub fn count(b: &[i32], z: Sizes, p: usize) -> usize
-    requires { ⌜ (bookNumber (now b) ≡ 0) × SizesAre (now b) z × (p < stateCount (now b)) ⌝ }
+    requires { ⌜ Checked (now b) z × (p < stateCount (now b)) ⌝ }
     ensures { λ r. ⌜ r ≡ actionCount (now (b .entry)) p ⌝ }
 {
     book::size_at(b, 4 + z.h + p)
@@ -55,8 +54,8 @@ fn zeros() -> [usize; 192]
 
 // For each state p: at p its first line, at 64 + p the first state of the next stage, at 128 + p the stages still to come.
 pub fn index(b: &[i32], z: Sizes) -> [usize; 192]
-    requires { ⌜ (bookNumber (now b) ≡ 0) × SizesAre (now b) z ⌝ }
-    ensures { λ r. ⌜ IndexOf (now (b .entry)) r ⌝ }
+    requires { ⌜ Checked (now b) z ⌝ }
+    ensures { λ r. ⌜ Indexed (now (b .entry)) z r ⌝ }
 {
     let h = z.h;
     let s = z.s;

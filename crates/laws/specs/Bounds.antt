@@ -20,7 +20,7 @@ weighted-sum : (w : ℕ) (z r : ℤ) (B R : ℕ) → natAbs z ≤ B → natAbs r
 weighted-sum w z r B R h k = le-trans (abs-add (pos w *ℤ z) r) (add-le-add (weighted w z B h) k)
 
 -- what is expected of transitions is at most the sum of their weights times a bound of v
-pub expected-bound : (v : ℕ → ℤ) (B : ℕ) → ((q : ℕ) → natAbs (v q) ≤ B) → (ts : List Transition) → natAbs (expected v ts) ≤ weightsOf ts * B
+expected-bound : (v : ℕ → ℤ) (B : ℕ) → ((q : ℕ) → natAbs (v q) ≤ B) → (ts : List Transition) → natAbs (expected v ts) ≤ weightsOf ts * B
 expected-bound v B h [] = omega arith
 expected-bound v B h (t ∷ ts) =
     omega (arith, weighted-sum (t .weight) (v (t .next)) (expected v ts) B (weightsOf ts * B) (h (t .next)) (expected-bound v B h ts))
@@ -37,7 +37,7 @@ module _ (D C : ℕ) where
   most-suc m = rw (pow-suc D m) (omega arith)
 
   -- of an action, by a bound of v at the states one stage on
-  pub action-bound : (m : ℕ) (v : ℕ → ℤ) (a : Action) → ((q : ℕ) → natAbs (v q) ≤ D ^ m * (m + 1) * C)
+  action-bound : (m : ℕ) (v : ℕ → ℤ) (a : Action) → ((q : ℕ) → natAbs (v q) ≤ D ^ m * (m + 1) * C)
       → natAbs (a .cost) ≤ C → weightsOf (a .transitions) ≤ D → natAbs (actionCost D (suc m) v a) ≤ D ^ suc m * (suc m + 1) * C
   action-bound m v a h c w =
       rw (← most-suc m) (weighted-sum (D ^ suc m) (a .cost) (expected v (a .transitions)) C (D * most m) c

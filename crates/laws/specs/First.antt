@@ -61,12 +61,11 @@ module _ (S : ℕ) (act : ℕ → ℕ → Action) (togo : ℕ → ℕ) (sh : Sha
     reached : Reached bs 0
     reached = (reached-mono act 0 (0 ∷ []) bs 0 (inl refl), sh .some-state)
 
-    pub closed : (q : ℕ) → In q (reachedFrom act 0 (0 ∷ []) bs) × (q < S)
+    closed : (q : ℕ) → Reached bs q
         → In (byteAt bs q) (opts q) × AtNexts (λ r. In r (reachedFrom act 0 (0 ∷ []) bs)) (act q (byteAt bs q) .transitions)
     closed q r = reached-closed act opts (sh .later) (byteAt bs) S 0 (0 ∷ []) bs is (reads bs) q (r .0) (omega arith) (omega arith)
 
-    pub stays : (q : ℕ) → In q (reachedFrom act 0 (0 ∷ []) bs) × (q < S)
-        → AtNexts (λ r. In r (reachedFrom act 0 (0 ∷ []) bs) × (r < S)) (act q (byteAt bs q) .transitions)
+    stays : (q : ℕ) → Reached bs q → AtNexts (Reached bs) (act q (byteAt bs q) .transitions)
     stays q r = every-both (λ t i l. (i, l)) (act q (byteAt bs q) .transitions) (closed q r .1) (sh .inside q (byteAt bs q))
 
     -- a policy of the lists obeys them from state 0 on

@@ -167,7 +167,7 @@ module _ {A : Type 0} (lt : A → A → Bool) where
   Rises (x ∷ xs) = Every (λ y. T (lt x y)) xs × Rises xs
 
   -- an element at a later place is after one at an earlier place
-  pub rises-at : (s : List A) → Rises s → (i j : ℕ) (x y : A) → i < j → getElem? s i ≡ some x → getElem? s j ≡ some y → T (lt x y)
+  rises-at : (s : List A) → Rises s → (i j : ℕ) (x y : A) → i < j → getElem? s i ≡ some x → getElem? s j ≡ some y → T (lt x y)
   rises-at [] r i j x y h e k = let z : _≡_ {A = ℕ} 0 1 = cc in absurd (omega arith)
   rises-at (a ∷ s) r i zero x y h e k = absurd (omega arith)
   rises-at (a ∷ s) r zero (suc j) x y h e k =

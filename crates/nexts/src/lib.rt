@@ -1,46 +1,45 @@
 // The next states of every action as a set, so that a walk over the states of a policy needs no line of the book.
 use book::Sizes;
+use lines::Lines;
 ghost use mathlib.Core.Path.{_≡_};
 ghost use Prim.Native.Nat.{_<_};
 ghost use lib.ListN.{length};
-ghost use Rattle.model.specs.Model.{stateCount, actionCount, actionLine, action};
-ghost use Rattle.model.specs.Questions.{bookNumber};
+ghost use Rattle.model.specs.Model.{stateCount, actionCount, action};
 ghost use Rattle.model.specs.Policy.{nexts};
-ghost use Rattle.book.specs.Read.{SizesAre};
-ghost use Rattle.index.specs.Index.{IndexOf};
+ghost use Rattle.index.specs.Index.{Indexed};
+ghost use Rattle.lines.specs.Lines.{LinesOf};
 ghost use Rattle.sets.specs.Sets.{SetOf};
 ghost use Rattle.nexts.specs.Nexts.{NextsTo, NextsOf};
 
-// The next states of the action whose first line is line j: action c of state p.
-fn next_set(b: &[i32], z: Sizes, x: &[usize; 192], p: usize, c: usize, j: usize) -> u64
-    requires { ⌜ (bookNumber (now b) ≡ 0) × SizesAre (now b) z × IndexOf (now b) (now x) × (p < stateCount (now b)) × (c < actionCount (now b) p) × (j ≡ actionLine (now b) p c) ⌝ }
+// The next states of action c of state p.
+fn next_set(b: &[i32], a: Lines, p: usize, c: usize) -> u64
+    requires { ⌜ LinesOf (now b) p c a ⌝ }
     ensures { λ r. ⌜ SetOf r (nexts (action (now (b .entry)) p c .transitions)) ⌝ }
 {
-    let at = z.columns + j;
-    let r = index::plain_at(b, at);
-    let base = x[64 + p];
+    let r = a.r;
     let mut set: u64 = 0;
     let mut i: usize = 0;
     while i < r {
-        i = i + 1;
-        let q = base + index::plain_at(b, at + i);
+        let q = lines::next(b, a, p, c, i);
         set = sets::with64(set, q as u64);
+        i = i + 1;
     }
     set
 }
 
 // The sets of the actions of state p, where t has those of the states before it.
 fn fill_state(b: &[i32], z: Sizes, x: &[usize; 192], p: usize, t: &mut [u64; 512])
-    requires { ⌜ (bookNumber (now b) ≡ 0) × SizesAre (now b) z × IndexOf (now b) (now x) × (p < stateCount (now b)) × NextsTo (now b) p 0 (now t) ⌝ }
+    requires { ⌜ Indexed (now b) z (now x) × (p < stateCount (now b)) × NextsTo (now b) p 0 (now t) ⌝ }
     ensures { λ _. ⌜ NextsTo (now (b .entry)) p (actionCount (now (b .entry)) p) (now (t .exit)) ⌝ }
 {
     let n = index::count(b, z, p);
     let mut j = x[p];
     let mut c: usize = 0;
     while c < n {
-        let y = next_set(b, z, x, p, c, j);
+        let a = lines::of_line(b, z, x, p, c, j);
+        let y = next_set(b, a, p, c);
         t[8 * p + c] = y;
-        j = index::line_after(b, z, j);
+        j = index::line_after(b, z, p, c, j);
         c = c + 1;
     }
 }
@@ -53,7 +52,7 @@ fn no_sets() -> [u64; 512]
 
 // At 8 × p + c the set of the next states of action c of state p.
 pub fn next_sets(b: &[i32], z: Sizes, x: &[usize; 192]) -> [u64; 512]
-    requires { ⌜ (bookNumber (now b) ≡ 0) × SizesAre (now b) z × IndexOf (now b) (now x) ⌝ }
+    requires { ⌜ Indexed (now b) z (now x) ⌝ }
     ensures { λ r. ⌜ NextsOf (now (b .entry)) r ⌝ }
 {
     let s = z.s;

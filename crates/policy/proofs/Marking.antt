@@ -1,24 +1,22 @@
--- Marking states: what the marks say afterwards, and the next states of one action, marked one after another.
+-- Marking states: what the marks say afterwards.
 -- Assumes nothing.
-use mathlib.Core.Path.{_≡_, refl, sym, ap, _∙_, subst}
+use mathlib.Core.Path.{_≡_, refl, ap, _∙_}
 use mathlib.Core.Bool.{Bool, true, false, _||_}
-use mathlib.Core.List.{List, [], _∷_, _++_, map}
-use Prim.Native.Nat.{ℕ, zero, suc, _+_, _-_, _≤_, _<_}
-use native.Mathlib.Nat.{add-zero}
+use mathlib.Core.List.{List, [], _∷_, _++_}
+use Prim.Native.Nat.{ℕ, zero, suc, _<_}
 use native.Mathlib.Decide.{ℕ-discrete}
 use native.Mathlib.Omega.{arith}
 use borrow.Author.Tests.{eq-eqb, ne-eqb}
 use lib.Dec.{eqb}
-use lib.IntN.{natAbs}
 use lib.ListN.{getD, set, replicate, length-set}
 use lib.Seq.{getD-set-same, getD-set-other}
-use Rattle.model.specs.Lists.{upFrom, isIn}
-use Rattle.model.specs.Model.{Words, firstState, stateCount, stage, actionCount, left, branches, actionLine, transitionAt, readAction, action}
+use Rattle.model.specs.Lists.{isIn}
+use Rattle.model.specs.Model.{Words, stateCount, action}
 use Rattle.model.specs.Questions.{bookNumber}
 use Rattle.model.specs.Policy.{nexts}
 use Rattle.laws.specs.Members.{In, Every, in-every, at-nexts}
 use Rattle.accepted.specs.Facts.{accepted}
-use Rattle.accepted.specs.Shape.{action-is, shape}
+use Rattle.accepted.specs.Shape.{shape}
 use Rattle.policy.specs.Marks.{Marks, mark}
 
 -- ---- marks
@@ -65,46 +63,3 @@ nexts-low ws ok p c =
   where
     inside : (q : ℕ) → In q (nexts (action ws p c .transitions)) → q < stateCount ws
     inside = at-nexts (λ q. q < stateCount ws) (action ws p c .transitions) (shape ws ok .inside p c)
-
--- the next states of n lines from line k on, at state p
-abbrev pub nextsFrom : Words → ℕ → ℕ → ℕ → List ℕ
-nextsFrom ws p k n = nexts (map (transitionAt ws (stage ws p)) (upFrom k n))
-
-pub nexts-cons : (ws : Words) (p k n m : ℕ) → n ≡ suc m
-    → nextsFrom ws p k n ≡ (firstState ws (stage ws p + 1) + natAbs (left ws k)) ∷ nextsFrom ws p (suc k) m
-unfolding transitionAt
-nexts-cons ws p k n m e = rw e
-
--- those of all r lines of action c are its next states
-pub nexts-are : (ws : Words) (p c r : ℕ) → p < stateCount ws → c < actionCount ws p → r ≡ branches ws (actionLine ws p c)
-    → nexts (action ws p c .transitions) ≡ nextsFrom ws p (actionLine ws p c + 1 + 0) (r - 0)
-unfolding readAction
-nexts-are ws p c r l k e = let z : r - 0 ≡ r = omega arith in rw (action-is ws p c l k, add-zero, z, e)
-
--- of action c of state p, which has r transitions, those from transition i on are still to be marked
-pub record ToMark (ws : Words) (p c r i : ℕ) (start marks : List Bool) : Type 0 where
-  pub low : Every (λ (q : ℕ). q < 64) (nextsFrom ws p (actionLine ws p c + 1 + i) (r - i))
-  pub rest : mark (nextsFrom ws p (actionLine ws p c + 1 + i) (r - i)) marks ≡ mark (nexts (action ws p c .transitions)) start
-
-module _ (ws : Words) (p c r : ℕ) where
-  pub all-to-mark : bookNumber ws ≡ 0 → p < stateCount ws → c < actionCount ws p → r ≡ branches ws (actionLine ws p c)
-      → (marks : List Bool) → ToMark ws p c r 0 marks marks
-  all-to-mark ok l k e marks =
-      let are = nexts-are ws p c r l k e in
-      record { low = subst (Every (λ (q : ℕ). q < 64)) are (nexts-low ws ok p c); rest = ap (λ (qs : List ℕ). mark qs marks) (sym are) }
-
-  module _ (i : ℕ) (start marks : List Bool) (m : ToMark ws p c r i start marks) where
-    module _ (q : ℕ) (l : i < r) (e : q ≡ firstState ws (stage ws p + 1) + natAbs (left ws (actionLine ws p c + 1 + i))) where
-      cons : nextsFrom ws p (actionLine ws p c + 1 + i) (r - i) ≡ q ∷ nextsFrom ws p (actionLine ws p c + 1 + (i + 1)) (r - (i + 1))
-      cons =
-          let k : suc (actionLine ws p c + 1 + i) ≡ actionLine ws p c + 1 + (i + 1) = omega arith in
-          nexts-cons ws p (actionLine ws p c + 1 + i) (r - i) (r - (i + 1)) (omega arith) ∙ rw (e, k)
-
-      -- q, the next state of transition i, has a mark; once it is set, those from i + 1 on are left
-      pub mark-next : (q < 64) × ToMark ws p c r (i + 1) start (set marks q true)
-      mark-next =
-          let low = rw cons at (m .low) in
-          (low .0, record { low = low .1; rest = ap (λ (qs : List ℕ). mark qs marks) (sym cons) ∙ m .rest })
-
-    pub all-marked : r ≤ i → marks ≡ mark (nexts (action ws p c .transitions)) start
-    all-marked l = let z : r - i ≡ 0 = omega arith in rw z at (m .rest)

@@ -6,14 +6,12 @@ ghost use mathlib.Core.List.{[], _∷_};
 ghost use Prim.Native.Nat.{_<_};
 ghost use Rattle.model.specs.Lists.{isIn};
 ghost use Rattle.model.specs.Model.{stateCount, actionCount, action, options};
-ghost use Rattle.model.specs.Questions.{bookNumber};
 ghost use Rattle.model.specs.Policy.{nexts, allowed, isPolicy};
-ghost use Rattle.book.specs.Read.{SizesAre};
-ghost use Rattle.index.specs.Index.{IndexOf};
+ghost use Rattle.index.specs.Index.{Checked, Indexed};
 ghost use Rattle.policy.specs.Marks.{Marks, mark};
 
 // State 0 is reached, and no other is known to be.
-pub fn first_marks() -> [bool; 64]
+fn first_marks() -> [bool; 64]
     ensures { λ r. ⌜ Marks r (0 ∷ []) ⌝ }
 {
     let mut marks = [false; 64];
@@ -23,7 +21,7 @@ pub fn first_marks() -> [bool; 64]
 
 // Is byte c allowed at state p: one of its actions if the state is reached, else 255?
 fn byte_allowed(b: &[i32], z: Sizes, p: usize, reached: bool, c: usize) -> bool
-    requires { ⌜ (bookNumber (now b) ≡ 0) × SizesAre (now b) z × (p < stateCount (now b)) ⌝ }
+    requires { ⌜ Checked (now b) z × (p < stateCount (now b)) ⌝ }
     ensures { λ r. ⌜ r ≡ isIn c (allowed (options (now (b .entry)) p) reached) ⌝ }
 {
     if !reached {
@@ -32,25 +30,24 @@ fn byte_allowed(b: &[i32], z: Sizes, p: usize, reached: bool, c: usize) -> bool
     c < index::count(b, z, p)
 }
 
-// Marks the next states of action c of state p. They are counted from the first state of the next stage, which x has at 64 + p.
-pub fn mark_nexts(b: &[i32], z: Sizes, x: &[usize; 192], p: usize, c: usize, marks: &mut [bool; 64])
-    requires { ⌜ (bookNumber (now b) ≡ 0) × SizesAre (now b) z × IndexOf (now b) (now x) × (p < stateCount (now b)) × (c < actionCount (now b) p) ⌝ }
+// Marks the next states of action c of state p.
+fn mark_nexts(b: &[i32], z: Sizes, x: &[usize; 192], p: usize, c: usize, marks: &mut [bool; 64])
+    requires { ⌜ Indexed (now b) z (now x) × (p < stateCount (now b)) × (c < actionCount (now b) p) ⌝ }
     ensures { λ _. ⌜ now (marks .exit) ≡ mark (nexts (action (now (b .entry)) p c .transitions)) (now (marks .entry)) ⌝ }
 {
-    let at = z.columns + index::action_line(b, z, p, x[p], c);
-    let r = index::plain_at(b, at);
-    let base = x[64 + p];
+    let t = lines::of_action(b, z, x, p, c);
+    let r = t.r;
     let mut i: usize = 0;
     while i < r {
-        i = i + 1;
-        let q = base + index::plain_at(b, at + i);
+        let q = lines::next(b, t, p, c, i);
         marks[q] = true;
+        i = i + 1;
     }
 }
 
 // 17: is the slice a policy of the book, whose index is x?
 pub fn is_policy(b: &[i32], z: Sizes, x: &[usize; 192], plan: &[u8]) -> bool
-    requires { ⌜ (bookNumber (now b) ≡ 0) × SizesAre (now b) z × IndexOf (now b) (now x) ⌝ }
+    requires { ⌜ Indexed (now b) z (now x) ⌝ }
     ensures { λ r. ⌜ r ≡ isPolicy (now (b .entry)) (now (plan .entry)) ⌝ }
 {
     let s = z.s;

@@ -3,7 +3,7 @@
 use mathlib.Core.Path.{_≡_, refl, sym, ap, ap₂, _∙_}
 use mathlib.Core.Bool.{Bool, true, false, _&&_}
 use mathlib.Core.Logic.{_⊎_, inl, inr}
-use Prim.Native.Nat.{ℕ, zero, suc, _+_, _*_, _≤_, _<_, max}
+use Prim.Native.Nat.{ℕ, zero, suc, _+_, _≤_, _<_, max}
 use native.Mathlib.Nat.{eq-or-lt-of-le}
 use native.Mathlib.Numerals.{add-one}
 use native.Mathlib.Omega.{arith}
@@ -61,7 +61,7 @@ pub all-same : (n : ℕ) (f g : ℕ → Bool) → ((i : ℕ) → i < n → f i �
 all-same zero f g h = refl
 all-same (suc n) f g h = ap₂ _&&_ (all-same n f g (λ i l. h i (omega arith))) (h n (omega arith))
 
--- a sum grows with n, and each of its terms is at most the sum
+-- a sum grows with n
 pub sum-mono : (m n : ℕ) (f : ℕ → ℕ) → m ≤ n → sumTo m f ≤ sumTo n f
 sum-mono m zero f h = let e : m ≡ 0 = omega arith in rw e (omega arith)
 sum-mono m (suc n) f h = go (eq-or-lt-of-le h) (sum-mono m n f)
@@ -69,11 +69,6 @@ sum-mono m (suc n) f h = go (eq-or-lt-of-le h) (sum-mono m n f)
     go : (m ≡ suc n) ⊎ (m < suc n) → (m ≤ n → sumTo m f ≤ sumTo n f) → sumTo m f ≤ sumTo n f + f n
     go (inl e) ih = rw e (omega arith)
     go (inr l) ih = omega (arith, ih (omega arith))
-
--- terms of at least 1 make a sum of at least n, and terms of at most B one of at most n × B
-pub sum-most : (n B : ℕ) (f : ℕ → ℕ) → ((i : ℕ) → i < n → f i ≤ B) → sumTo n f ≤ n * B
-sum-most zero B f h = omega arith
-sum-most (suc n) B f h = omega (arith, sum-most n B f (λ i l. h i (omega arith)), h n (omega arith))
 
 pub sum-same : (n : ℕ) (f g : ℕ → ℕ) → ((i : ℕ) → i < n → f i ≡ g i) → sumTo n f ≡ sumTo n g
 sum-same zero f g h = refl

@@ -57,7 +57,7 @@ unfolding stage
 stage-is ws p n o = begun-over ws p n (o .from) (o .to) (horizon ws) (o .within)
 
 -- every state of the model is of a stage
-pub some-stage : (ws : Words) (p : ℕ) → p < stateCount ws → (n : ℕ) × OfStage ws p n
+some-stage : (ws : Words) (p : ℕ) → p < stateCount ws → (n : ℕ) × OfStage ws p n
 unfolding stateCount
 some-stage ws p h = look (horizon ws) (omega arith) h
   where

@@ -5,10 +5,8 @@ ghost use mathlib.Core.Bool.{true};
 ghost use Prim.Native.Nat.{_<_};
 ghost use lib.ListN.{length};
 ghost use Rattle.model.specs.Model.{stateCount, actionCount, action};
-ghost use Rattle.model.specs.Questions.{bookNumber};
 ghost use Rattle.model.specs.Policy.{isPolicy};
-ghost use Rattle.book.specs.Read.{SizesAre};
-ghost use Rattle.index.specs.Index.{IndexOf};
+ghost use Rattle.index.specs.Index.{Indexed};
 ghost use Rattle.splits.specs.Reach.{spread};
 ghost use Rattle.reach.specs.Weights.{weightAt, firstWeights, Holds, Room, WeightsOf};
 
@@ -31,18 +29,15 @@ fn spread_action(
     y: usize,
     w: &mut [usize; 64],
 )
-    requires { ⌜ (bookNumber (now b) ≡ 0) × SizesAre (now b) z × IndexOf (now b) (now x) × (p < stateCount (now b)) × (c < actionCount (now b) p) × (length (now w) ≡ 64) × Room y (action (now b) p c .transitions) (now w) ⌝ }
+    requires { ⌜ Indexed (now b) z (now x) × (p < stateCount (now b)) × (c < actionCount (now b) p) × (length (now w) ≡ 64) × Room y (action (now b) p c .transitions) (now w) ⌝ }
     ensures { λ _. ⌜ Holds (now (w .exit)) (spread y (action (now (b .entry)) p c .transitions) (weightAt (now (w .entry)))) ⌝ }
 {
-    let line = z.columns + index::action_line(b, z, p, x[p], c);
-    let r = index::plain_at(b, line);
-    let at = line + 1;
-    let l = z.l;
-    let base = x[64 + p];
+    let a = lines::of_action(b, z, x, p, c);
+    let r = a.r;
     let mut i: usize = 0;
     while i < r {
-        let q = base + index::plain_at(b, at + i);
-        let weight = index::plain_at(b, at + l + i);
+        let q = lines::next(b, a, p, c, i);
+        let weight = lines::weight(b, a, p, c, i);
         w[q] = w[q] + y * weight;
         i = i + 1;
     }
@@ -50,7 +45,7 @@ fn spread_action(
 
 // The reach weights of the policy, at the number of each state.
 pub fn reach_weights(b: &[i32], z: Sizes, x: &[usize; 192], plan: &[u8]) -> [usize; 64]
-    requires { ⌜ (bookNumber (now b) ≡ 0) × SizesAre (now b) z × IndexOf (now b) (now x) × (isPolicy (now b) (now plan) ≡ true) ⌝ }
+    requires { ⌜ Indexed (now b) z (now x) × (isPolicy (now b) (now plan) ≡ true) ⌝ }
     ensures { λ r. ⌜ WeightsOf (now (b .entry)) (now (plan .entry)) r ⌝ }
 {
     let s = z.s;

@@ -37,7 +37,7 @@ without-in x y (z ∷ zs) i = go (eqb x z) refl i (without-in x y zs)
     go false e (inl q) ih = (inl q, λ p. eqb-false x z e (p ∙ q))
     go false e (inr i) ih = let h = ih i in (inr (h .0), h .1)
 
-pub in-without : (x y : ℕ) (zs : List ℕ) → In y zs → (x ≡ y → ⊥) → In y (without x zs)
+in-without : (x y : ℕ) (zs : List ℕ) → In y zs → (x ≡ y → ⊥) → In y (without x zs)
 in-without x y [] i n = i
 in-without x y (z ∷ zs) i n = go (eqb x z) refl i (λ j. in-without x y zs j n)
   where

@@ -263,7 +263,7 @@ module _ (D : ℕ) (togo : ℕ → ℕ) where
               ∙ ap (actionCost D (togo p) v′) same
 
       -- a change of the cost-to-go of state r changes that of state 0 by the reach weight of r times as much
-      pub reach-moves : costToGo D taken′ (togo 0) 0 +ℤ pos (weightsBefore taken r r) *ℤ costToGo D taken (togo r) r
+      reach-moves : costToGo D taken′ (togo 0) 0 +ℤ pos (weightsBefore taken r r) *ℤ costToGo D taken (togo r) r
           ≡ costToGo D taken (togo 0) 0 +ℤ pos (weightsBefore taken r r) *ℤ costToGo D taken′ (togo r) r
       reach-moves =
           cancel-both (v′ 0) (v 0) (pos (weightsBefore taken r r) *ℤ v r) (pos (weightsBefore taken r r) *ℤ v′ r) (after v)

@@ -97,7 +97,7 @@ module _ (ws : Words) (ok : bookNumber ws ≡ 0) (e : Entry) (ri : Right ws e) w
       free-without (cond (eqb p (e .split)) (e .mask) 0) (f p) (options ws p) ∙ ap (without (f p)) (sym (lists-left p h))
 
   -- the plan of e is a policy of its lists
-  pub plan-policy : IsPolicy (action ws) (listsOf ws e) (stateCount ws) 0 (0 ∷ []) (e .plan)
+  plan-policy : IsPolicy (action ws) (listsOf ws e) (stateCount ws) 0 (0 ∷ []) (e .plan)
   plan-policy =
       subst (IsPolicy (action ws) (listsOf ws e) (stateCount ws) 0 (0 ∷ [])) (sym (ri .plan-is))
       (is-policy (scale ws) (stateCount ws) (action ws) (togo ws) (shape ws ok) (Alive ws) (listsOf ws e) (ri .lists))
@@ -127,7 +127,7 @@ module _ (ws : Words) (ok : bookNumber ws ≡ 0) (e : Entry) (ri : Right ws e) w
         reached′ some′ s h
 
     -- its lists are those of the child
-    pub child-is : listsOf ws (childEntry ws e p) ≡ child
+    child-is : listsOf ws (childEntry ws e p) ≡ child
     child-is =
         by-place p (listsOf ws (childEntry ws e p)) child
         (λ s h. lists-before ws (childEntry ws e p) s h ∙ ap (λ (b : ℕ). b ∷ []) (front s h)

@@ -11,7 +11,7 @@ use native.Mathlib.Omega.{arith}
 use borrow.Author.Tests.{ne-eqb, le-leb, lt-leb, lt-ltb, le-ltb}
 use lib.Dec.{eqb, leb, ltb}
 use lib.IntN.{ℤ, pos, negsuc}
-use lib.Signed.{leZ, ltZ, leZ-yes, _≤ℤ_, _<ℤ_, <ℤ-≤ℤ-trans, clashℤ}
+use lib.Signed.{leZ, ltZ, leZ-yes, <ℤ-≤ℤ-trans, clashℤ}
 use Rattle.model.specs.Lists.{upFrom}
 use Rattle.model.specs.Recursion.{pick, firstLeast, bestOf}
 use Rattle.laws.specs.Int.{≤ℤ-trans, leZ-no, <→≤}
@@ -28,7 +28,7 @@ leb-ltb a b = go (decLt b a)
     go (yes h) = lt-leb a b h ∙ ap not (sym (lt-ltb b a h))
     go (no h) = le-leb a b (omega arith) ∙ ap not (sym (le-ltb b a (omega arith)))
 
-pub le-not-lt : (x y : ℤ) → leZ x y ≡ not (ltZ y x)
+le-not-lt : (x y : ℤ) → leZ x y ≡ not (ltZ y x)
 le-not-lt (pos a) (pos b) = leb-ltb a b
 le-not-lt (pos a) (negsuc b) = refl
 le-not-lt (negsuc a) (pos b) = refl
@@ -49,7 +49,7 @@ module _ (f : ℕ → ℤ) where
   none-right x (inl e) = rw e
   none-right x (inr h) = rw (some-action h)
 
-  pub better-chosen : (x y : ℕ) → Chosen x → Chosen y → Chosen (better f x y)
+  better-chosen : (x y : ℕ) → Chosen x → Chosen y → Chosen (better f x y)
   better-chosen x y (inl e) k = rw e k
   better-chosen x y (inr h) (inl e) = rw (some-action h, e) (inr h)
   better-chosen x y (inr h) (inr k) = rw (two x y h k) (inr (pick-below (leZ (f x) (f y)) x y h k))
@@ -66,7 +66,7 @@ module _ (f : ℕ → ℤ) where
       absurd (clashℤ (<ℤ-≤ℤ-trans (leZ-no {a = f y} {b = f z} (false-T q)) (<→≤ (leZ-no {a = f x} {b = f y} (false-T p)))) (leZ-yes {a = f x} {b = f z} (true-T r)))
   three x y z false false false p q r = rw (r, q)
 
-  pub better-assoc : (x y z : ℕ) → Chosen x → Chosen y → Chosen z → better f (better f x y) z ≡ better f x (better f y z)
+  better-assoc : (x y z : ℕ) → Chosen x → Chosen y → Chosen z → better f (better f x y) z ≡ better f x (better f y z)
   better-assoc x y z (inl e) k l = rw e
   better-assoc x y z (inr h) (inl e) l = rw (some-action h, e, some-action h)
   better-assoc x y z (inr h) (inr k) (inl e) =
@@ -80,11 +80,11 @@ module _ (f : ℕ → ℤ) where
 
   -- ---- lists of actions
 
-  pub best-chosen : (xs : List ℕ) → Every (λ c. c < 8) xs → Chosen (bestOf f xs)
+  best-chosen : (xs : List ℕ) → Every (λ c. c < 8) xs → Chosen (bestOf f xs)
   best-chosen [] h = inl refl
   best-chosen (x ∷ xs) h = inr (every-in (λ c. c < 8) (x ∷ xs) h (bestOf f (x ∷ xs)) (best-in f (x ∷ xs) x (inl refl)))
 
-  pub best-cons : (x : ℕ) (xs : List ℕ) → x < 8 → Every (λ c. c < 8) xs → bestOf f (x ∷ xs) ≡ better f x (bestOf f xs)
+  best-cons : (x : ℕ) (xs : List ℕ) → x < 8 → Every (λ c. c < 8) xs → bestOf f (x ∷ xs) ≡ better f x (bestOf f xs)
   best-cons x [] h k = sym (none-right x (inr h))
   best-cons x (y ∷ ys) h k =
       sym (two x (firstLeast f y ys) h (every-in (λ c. c < 8) (y ∷ ys) k (firstLeast f y ys) (best-in f (y ∷ ys) y (inl refl))))

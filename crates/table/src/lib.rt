@@ -8,10 +8,8 @@ ghost use lib.Signed.{ltZ};
 ghost use lib.ListN.{length, getD};
 ghost use Rattle.model.specs.Lists.{upFrom};
 ghost use Rattle.model.specs.Model.{stateCount};
-ghost use Rattle.model.specs.Questions.{bookNumber};
 ghost use Rattle.model.specs.Recursion.{bestOf};
-ghost use Rattle.book.specs.Read.{SizesAre};
-ghost use Rattle.index.specs.Index.{IndexOf};
+ghost use Rattle.index.specs.Index.{Indexed};
 ghost use Rattle.sets.specs.Sets.{has, free};
 ghost use Rattle.costs.specs.Terms.{Bounded};
 ghost use Rattle.table.specs.Table.{Chosen, better, rowOf, Filled, TableOf};
@@ -63,7 +61,7 @@ pub fn best_action(q: &[i64; 512], p: usize, n: usize, mask: u8) -> usize
 
 // The costs of the actions of state p, where v has the least costs-to-go of the states after it.
 fn fill_row(b: &[i32], z: Sizes, x: &[usize; 192], p: usize, q: &mut [i64; 512], v: &[i64; 64])
-    requires { ⌜ (bookNumber (now b) ≡ 0) × SizesAre (now b) z × IndexOf (now b) (now x) × (p < stateCount (now b)) × Bounded (now b) p (now v) × (length (now q) ≡ 512) ⌝ }
+    requires { ⌜ Indexed (now b) z (now x) × (p < stateCount (now b)) × Bounded (now b) p (now v) × (length (now q) ≡ 512) ⌝ }
     ensures { λ r. ⌜ Filled (now (b .entry)) p (now (v .entry)) (now (q .entry)) (now (q .exit)) ⌝ }
 {
     let n = index::count(b, z, p);
@@ -71,9 +69,10 @@ fn fill_row(b: &[i32], z: Sizes, x: &[usize; 192], p: usize, q: &mut [i64; 512],
     let mut j = x[p];
     let mut c: usize = 0;
     while c < n {
-        let y = costs::action_cost(b, z, x, p, c, j, unit, v);
+        let a = lines::of_line(b, z, x, p, c, j);
+        let y = costs::action_cost(b, a, p, c, unit, v);
         q[8 * p + c] = y;
-        j = index::line_after(b, z, j);
+        j = index::line_after(b, z, p, c, j);
         c = c + 1;
     }
 }
@@ -101,7 +100,7 @@ fn least_of_row(q: &[i64; 512], p: usize, n: usize) -> i64
 
 // Fills q and v with the table of a checked book.
 pub fn fill_table(b: &[i32], z: Sizes, x: &[usize; 192], q: &mut [i64; 512], v: &mut [i64; 64])
-    requires { ⌜ (bookNumber (now b) ≡ 0) × SizesAre (now b) z × IndexOf (now b) (now x) × (length (now q) ≡ 512) × (length (now v) ≡ 64) ⌝ }
+    requires { ⌜ Indexed (now b) z (now x) × (length (now q) ≡ 512) × (length (now v) ≡ 64) ⌝ }
     ensures { λ _. ⌜ TableOf (now (b .entry)) (now (q .exit)) (now (v .exit)) ⌝ }
 {
     let mut p = z.s;
@@ -116,7 +115,7 @@ pub fn fill_table(b: &[i32], z: Sizes, x: &[usize; 192], q: &mut [i64; 512], v: 
 
 // The table of a checked book.
 pub fn make_table(b: &[i32], z: Sizes, x: &[usize; 192]) -> Table
-    requires { ⌜ (bookNumber (now b) ≡ 0) × SizesAre (now b) z × IndexOf (now b) (now x) ⌝ }
+    requires { ⌜ Indexed (now b) z (now x) ⌝ }
     ensures { λ r. ⌜ TableOf (now (b .entry)) (r .q) (r .v) ⌝ }
 {
     let mut q = zero_rows();

@@ -6,7 +6,7 @@ use Prim.Native.Nat.{ℕ, _^_, _≤_, _<_}
 use native.Mathlib.Omega.{arith}
 use borrow.Author.Tests.{le-ltb}
 use lib.Dec.{ltb}
-use lib.IntN.{ℤ, pos, _+ℤ_, _*ℤ_, *ℤ-zero}
+use lib.IntN.{ℤ, pos, _+ℤ_, *ℤ-zero}
 use Rattle.model.specs.Model.{Words, scale, stateCount, togo, actionCount, action, noAction}
 use Rattle.model.specs.Questions.{bookNumber}
 use Rattle.model.specs.Policy.{Policy, isPolicy}

@@ -5,13 +5,11 @@ ghost use mathlib.Core.Bool.{true};
 ghost use Prim.Native.Nat.{_+_, _<_};
 ghost use lib.ListN.{length};
 ghost use Rattle.model.specs.Model.{stateCount, scale, togo};
-ghost use Rattle.model.specs.Questions.{bookNumber};
 ghost use Rattle.model.specs.Policy.{isPolicy};
 ghost use Rattle.model.specs.Path.{taken, policyCost};
 ghost use Rattle.model.specs.Recursion.{costToGo};
 ghost use Rattle.model.specs.Calls.{valueNumber, valueCost};
-ghost use Rattle.book.specs.Read.{SizesAre};
-ghost use Rattle.index.specs.Index.{IndexOf};
+ghost use Rattle.index.specs.Index.{Indexed};
 ghost use Rattle.value.specs.Pass.{ValuesFrom};
 
 // The number of the first question that is answered no, or 0; and the cost, 0 where it is refused.
@@ -22,17 +20,16 @@ pub struct Valued {
 
 // The cost-to-go of state p, where v has those of the states after it. A state that is not reached has none.
 fn state_cost(b: &[i32], z: Sizes, x: &[usize; 192], plan: &[u8], p: usize, v: &[i64; 64]) -> i64
-    requires { ⌜ (bookNumber (now b) ≡ 0) × SizesAre (now b) z × IndexOf (now b) (now x) × (isPolicy (now b) (now plan) ≡ true) × (p < stateCount (now b)) × ValuesFrom (now b) (now plan) (p + 1) (now v) ⌝ }
+    requires { ⌜ Indexed (now b) z (now x) × (isPolicy (now b) (now plan) ≡ true) × (p < stateCount (now b)) × ValuesFrom (now b) (now plan) (p + 1) (now v) ⌝ }
     ensures { λ r. ⌜ r ≡ costToGo (scale (now (b .entry))) (taken (now (b .entry)) (now (plan .entry))) (togo (now (b .entry)) p) p ⌝ }
 {
     let c = plan[p] as usize;
     if c == 255 {
         return 0;
     }
-    let line = x[p];
-    let j = index::action_line(b, z, p, line, c);
+    let a = lines::of_action(b, z, x, p, c);
     let unit = costs::unit(b, z, x, p);
-    costs::action_cost(b, z, x, p, c, j, unit, v)
+    costs::action_cost(b, a, p, c, unit, v)
 }
 
 fn zeros() -> [i64; 64]
@@ -43,7 +40,7 @@ fn zeros() -> [i64; 64]
 
 // The cost of a policy of a checked book: one pass from the last state to the first.
 pub fn policy_cost(b: &[i32], z: Sizes, x: &[usize; 192], plan: &[u8]) -> i64
-    requires { ⌜ (bookNumber (now b) ≡ 0) × SizesAre (now b) z × IndexOf (now b) (now x) × (isPolicy (now b) (now plan) ≡ true) ⌝ }
+    requires { ⌜ Indexed (now b) z (now x) × (isPolicy (now b) (now plan) ≡ true) ⌝ }
     ensures { λ r. ⌜ r ≡ policyCost (now (b .entry)) (now (plan .entry)) ⌝ }
 {
     let mut v = zeros();

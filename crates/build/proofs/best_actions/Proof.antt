@@ -28,7 +28,7 @@ loop-holds : tie.Need-loop-holds Inv-loop μ-loop
 loop-holds c =
     let s = c .before in
     let ws = s .args .b .now in
-    (accepted ws (s .pre .0) .sizes .s-high, omega arith, best-none ws (c .zeros .result) (c .zeros .ensures))
+    (accepted ws (s .pre .0 .ok) .sizes .s-high, omega arith, best-none ws (c .zeros .result) (c .zeros .ensures))
 
 count-requires : tie.Need-count-requires Inv-loop μ-loop
 count-requires c κs = search needs
@@ -37,7 +37,7 @@ best-action-requires : tie.Need-best-action-requires Inv-loop μ-loop
 best-action-requires c κs =
     let l = c .before .before in
     let s = l .before .before in
-    (omega arith, omega (arith, c .count .ensures, accepted (s .args .b .now) (s .pre .0) .counts-high (l .loop .p) (omega arith)))
+    (omega arith, omega (arith, c .count .ensures, accepted (s .args .b .now) (s .pre .0 .ok) .counts-high (l .loop .p) (omega arith)))
 
 mul-best : tie.Need-mul-best Inv-loop μ-loop
 mul-best c = omega arith
@@ -62,7 +62,7 @@ loop-again c =
       omega arith,
       best-more ws p (c .best-action .result) (l .loop .best) (omega arith) (l .loop .inv .2)
           (c .best-action .ensures ∙ ap (λ n. bestOf (rowOf q p) (free 0 (upFrom 0 n))) (c .before .count .ensures)
-          ∙ row-best ws p q (s .pre .2) (omega arith)),
+          ∙ row-best ws p q (s .pre .1) (omega arith)),
     )
 
 returns : tie.Need-returns Inv-loop μ-loop

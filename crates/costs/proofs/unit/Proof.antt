@@ -9,11 +9,11 @@ use Rattle.costs.proofs.unit.Statement.{statement}
 use Rattle.costs.proofs.unit.Tie as tie
 
 state : (s : tie.Start) → s .args .p < 64
-state s = omega (arith, s .pre .3, accepted (s .args .b .now) (s .pre .0) .sizes .s-high)
+state s = omega (arith, s .pre .1, accepted (s .args .b .now) (s .pre .0 .checked .ok) .sizes .s-high)
 
 few : (s : tie.Start) → togo (s .args .b .now) (s .args .p) ≤ 8
 unfolding togo
-few s = let a = accepted (s .args .b .now) (s .pre .0) .sizes in omega arith
+few s = let a = accepted (s .args .b .now) (s .pre .0 .checked .ok) .sizes in omega arith
 
 add-m : tie.Need-add-m
 add-m c = omega (arith, state c)
@@ -27,14 +27,14 @@ element-copy-out-m c = omega (arith, state c)
 raised-requires : tie.Need-raised-requires
 raised-requires c κs =
     let s = c .before in (
-      omega (arith, s .pre .1 .d-is, accepted (s .args .b .now) (s .pre .0) .sizes .d-high),
-      omega (arith, few s, s .pre .2 .to-go (s .args .p) (s .pre .3)),
+      omega (arith, s .pre .0 .checked .sizes .d-is, accepted (s .args .b .now) (s .pre .0 .checked .ok) .sizes .d-high),
+      omega (arith, few s, s .pre .0 .index .to-go (s .args .p) (s .pre .1)),
     )
 
 returns : tie.Need-returns
 returns c =
     let s = c .before .before in
-    c .raised .ensures ∙ ap₂ _^_ (s .pre .1 .d-is) (s .pre .2 .to-go (s .args .p) (s .pre .3))
+    c .raised .ensures ∙ ap₂ _^_ (s .pre .0 .checked .sizes .d-is) (s .pre .0 .index .to-go (s .args .p) (s .pre .1))
 
 pub unit-spec : {M : Type 1} → statement M
 unit-spec = tie.close (tie.spec add-m mul-m element-copy-out-m raised-requires returns)

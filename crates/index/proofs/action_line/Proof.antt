@@ -3,9 +3,8 @@
 use mathlib.Core.Path.{_≡_, sym, ap, _∙_}
 use Prim.Native.Nat.{_-_, _≤_}
 use native.Mathlib.Omega.{arith}
-use Rattle.model.specs.Model.{lineAfter, actionLine}
-use Rattle.index.proofs.Lines.{line-start, line-next, first-inside}
-use Rattle.index.proofs.Signs.{first-up}
+use Rattle.model.specs.Model.{actionLine}
+use Rattle.index.proofs.Lines.{line-start}
 use borrow.Author.Needs.{needs}
 use Rattle.index.proofs.action_line.Statement.{statement}
 use Rattle.index.proofs.action_line.Tie as tie
@@ -17,17 +16,13 @@ abbrev μ-loop : tie.MeasureT-loop
 μ-loop b z p line c j₀ d₀ j d = c - d
 
 loop-holds : tie.Need-loop-holds Inv-loop μ-loop
-loop-holds c = (omega arith, c .pre .3 ∙ sym (line-start (c .args .b .now) (c .args .p)))
+loop-holds c = (omega arith, c .pre .2 ∙ sym (line-start (c .args .b .now) (c .args .p)))
 
 line-after-requires : tie.Need-line-after-requires Inv-loop μ-loop
 line-after-requires c κs =
     let l = c .before in
-    let s = l .before in (
-      s .pre .0,
-      s .pre .1,
-      omega (arith, l .loop .inv .1, first-inside (s .args .b .now) (s .pre .0) (s .args .p) (s .pre .2) (l .loop .d) (omega arith)),
-      rw (l .loop .inv .1) (first-up (s .args .b .now) (s .pre .0) (s .args .p) (s .pre .2) (l .loop .d) (omega arith)),
-    )
+    let s = l .before in
+    (s .pre .0, record { state = s .pre .1; action = omega arith; line-is = l .loop .inv .1 })
 
 add-d : tie.Need-add-d Inv-loop μ-loop
 add-d c = search needs
@@ -36,13 +31,7 @@ loop-less : tie.Need-loop-less Inv-loop μ-loop
 loop-less c = search needs
 
 loop-again : tie.Need-loop-again Inv-loop μ-loop
-loop-again c =
-    let l = c .before .before in
-    let s = l .before in (
-      omega arith,
-      c .line-after .ensures ∙ ap (lineAfter (s .args .b .now)) (l .loop .inv .1)
-          ∙ sym (line-next (s .args .b .now) (s .args .p) (l .loop .d)),
-    )
+loop-again c = (omega arith, c .line-after .ensures)
 
 returns : tie.Need-returns Inv-loop μ-loop
 returns c =

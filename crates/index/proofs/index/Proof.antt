@@ -28,7 +28,7 @@ loop-holds : tie.Need-loop-holds Inv-loop μ-loop
 unfolding stateLine
 loop-holds c =
     let s = c .before in
-    let a = accepted (s .args .b .now) (s .pre .0) .sizes in (
+    let a = accepted (s .args .b .now) (s .pre .ok) .sizes in (
       a .s-high,
       omega arith,
       record {
@@ -45,7 +45,7 @@ stage-for-requires : tie.Need-stage-for-requires Inv-loop μ-loop
 stage-for-requires c κs =
     let l = c .before in
     let s = l .before .before in
-    (accepted (s .args .b .now) (s .pre .0) .sizes, s .pre .1, l .loop .inv .3, omega arith)
+    (accepted (s .args .b .now) (s .pre .ok) .sizes, s .pre .sizes, l .loop .inv .3, omega arith)
 
 mul-x : tie.Need-mul-x Inv-loop μ-loop
 mul-x c = omega arith
@@ -81,7 +81,7 @@ action-line-requires : tie.Need-action-line-requires Inv-loop μ-loop
 action-line-requires c κs =
     let l = c .before .before .before .before in
     let s = l .before .before in
-    (s .pre .0, s .pre .1, omega arith, l .loop .inv .4, omega (arith, c .count .ensures))
+    (s .pre, omega arith, l .loop .inv .4, omega (arith, c .count .ensures))
 
 add-p : tie.Need-add-p Inv-loop μ-loop
 add-p c = search needs
@@ -104,7 +104,7 @@ loop-again c =
       omega arith,
       index-more (l .loop .x) p (l .loop .at) (for .result .end) (s .args .z .h - for .result .n) (l .loop .inv .2 .long) (omega arith) ws
           (l .loop .inv .2) (l .loop .inv .4) (for .ensures .end-is ∙ ap (λ k. firstState ws (k + 1)) (sym is))
-          (ap (λ k. k - for .result .n) (s .pre .1 .h-is) ∙ ap (λ k. horizon ws - k) (sym is)),
+          (ap (λ k. k - for .result .n) (s .pre .sizes .h-is) ∙ ap (λ k. horizon ws - k) (sym is)),
       next-near ws p (for .result) (for .ensures),
       c .action-line .ensures ∙ ap (actionLine ws p) (n .count .ensures) ∙ sym (state-next ws p),
     )
@@ -112,9 +112,10 @@ loop-again c =
 returns : tie.Need-returns Inv-loop μ-loop
 returns c =
     let l = c .before in
-    let ws = l .before .before .args .b .now in
+    let s = l .before .before in
+    let ws = s .args .b .now in
     let e : l .loop .p ≡ stateCount ws = omega arith in
-    subst (λ n. IndexTo ws n (l .loop .x)) e (l .loop .inv .2)
+    record { checked = s .pre; index = subst (λ n. IndexTo ws n (l .loop .x)) e (l .loop .inv .2) }
 
 pub index-spec : {M : Type 1} → statement M
 index-spec =

@@ -33,7 +33,7 @@ read-sizes-requires : tie.Need-read-sizes-requires
 read-sizes-requires c κs = headed _ (good c)
 
 index-requires : tie.Need-index-requires
-index-requires c κs = search needs
+index-requires c κs = record { ok = good (c .before); sizes = c .read-sizes .ensures }
 
 zero-rows-requires : tie.Need-zero-rows-requires
 zero-rows-requires c κs = search needs

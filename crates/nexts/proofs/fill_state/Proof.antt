@@ -1,12 +1,12 @@
 -- The entries of the first c actions are filled, and j is the first line of action c.
 -- Assumes nothing.
-use mathlib.Core.Path.{_≡_, sym, ap, _∙_, subst}
+use mathlib.Core.Path.{_≡_, sym, _∙_, subst}
 use Prim.Native.Nat.{_-_, _≤_, _<_}
 use native.Mathlib.Omega.{arith}
-use Rattle.model.specs.Model.{actionCount, lineAfter, actionLine}
+use Rattle.model.specs.Model.{actionCount, actionLine}
 use Rattle.accepted.specs.Facts.{accepted}
-use Rattle.index.proofs.Lines.{line-start, line-next, first-inside}
-use Rattle.index.proofs.Signs.{first-up}
+use Rattle.index.specs.Index.{ActionAt}
+use Rattle.index.proofs.Lines.{line-start}
 use Rattle.nexts.specs.Nexts.{NextsTo}
 use Rattle.nexts.proofs.Rows.{one-more}
 use borrow.Author.Needs.{needs}
@@ -24,7 +24,7 @@ count-requires : tie.Need-count-requires Inv-loop μ-loop
 count-requires c κs = search needs
 
 state : (c : tie.After-count Inv-loop μ-loop) → c .before .args .p < 64
-state c = let s = c .before in omega (arith, s .pre .3, accepted (s .args .b .now) (s .pre .0) .sizes .s-high)
+state c = let s = c .before in omega (arith, s .pre .1, accepted (s .args .b .now) (s .pre .0 .checked .ok) .sizes .s-high)
 
 mul-j : tie.Need-mul-j Inv-loop μ-loop
 mul-j c = omega (arith, state c)
@@ -38,16 +38,25 @@ loop-holds c =
     let ws = s .args .b .now in (
       omega arith,
       state (c .before),
-      omega (arith, c .before .count .ensures, accepted ws (s .pre .0) .counts-high (s .args .p) (s .pre .3)),
-      s .pre .4,
-      s .pre .2 .line (s .args .p) (s .pre .3) ∙ sym (line-start ws (s .args .p)),
+      omega (arith, c .before .count .ensures, accepted ws (s .pre .0 .checked .ok) .counts-high (s .args .p) (s .pre .1)),
+      s .pre .2,
+      s .pre .0 .index .line (s .args .p) (s .pre .1) ∙ sym (line-start ws (s .args .p)),
     )
 
-next-set-requires : tie.Need-next-set-requires Inv-loop μ-loop
-next-set-requires c κs =
+-- action c and its first line
+here : (c : tie.In-loop Inv-loop μ-loop) → let l = c .before in
+    let s = l .before .before .before in
+    ActionAt (s .args .b .now) (s .args .p) (l .loop .c) (l .loop .j)
+here c =
     let l = c .before in
     let s = l .before .before .before in
-    (s .pre .0, s .pre .1, s .pre .2, s .pre .3, omega (arith, l .before .before .count .ensures), l .loop .inv .4)
+    record { state = s .pre .1; action = omega (arith, l .before .before .count .ensures); line-is = l .loop .inv .4 }
+
+of-line-requires : tie.Need-of-line-requires Inv-loop μ-loop
+of-line-requires c κs = (c .before .before .before .before .pre .0, here c)
+
+next-set-requires : tie.Need-next-set-requires Inv-loop μ-loop
+next-set-requires c κs = c .of-line .ensures
 
 mul-t : tie.Need-mul-t Inv-loop μ-loop
 mul-t c = omega arith
@@ -64,17 +73,7 @@ element-write-t c = omega arith
 line-after-requires : tie.Need-line-after-requires Inv-loop μ-loop
 line-after-requires c κs =
     let l = c .before .before in
-    let s = l .before .before .before in
-    let ws = s .args .b .now in (
-      s .pre .0,
-      s .pre .1,
-      omega (
-        arith,
-        l .loop .inv .4,
-        first-inside ws (s .pre .0) (s .args .p) (s .pre .3) (l .loop .c) (omega (arith, l .before .before .count .ensures)),
-      ),
-      rw (l .loop .inv .4) (first-up ws (s .pre .0) (s .args .p) (s .pre .3) (l .loop .c) (omega (arith, l .before .before .count .ensures))),
-    )
+    (l .before .before .before .before .pre .0 .checked, here l)
 
 add-c : tie.Need-add-c Inv-loop μ-loop
 add-c c = search needs
@@ -84,7 +83,7 @@ loop-less c = search needs
 
 loop-again : tie.Need-loop-again Inv-loop μ-loop
 loop-again c =
-    let l = c .before .before .before in
+    let l = c .before .before .before .before in
     let s = l .before .before .before in
     let ws = s .args .b .now in
     let y = c .before .next-set in (
@@ -92,8 +91,8 @@ loop-again c =
       l .loop .inv .1,
       l .loop .inv .2,
       one-more ws (s .args .p) (l .loop .c) (l .loop .t) (y .result) (l .loop .inv .1) (omega arith)
-          (λ p h. accepted ws (s .pre .0) .counts-high p (omega (arith, h, s .pre .3))) (l .loop .inv .3) (y .ensures),
-      c .line-after .ensures ∙ ap (lineAfter ws) (l .loop .inv .4) ∙ sym (line-next ws (s .args .p) (l .loop .c)),
+          (λ p h. accepted ws (s .pre .0 .checked .ok) .counts-high p (omega (arith, h, s .pre .1))) (l .loop .inv .3) (y .ensures),
+      c .line-after .ensures,
     )
 
 returns : tie.Need-returns Inv-loop μ-loop
@@ -114,6 +113,7 @@ fill-state-spec =
     mul-j
     element-copy-out-j
     loop-holds
+    of-line-requires
     next-set-requires
     mul-t
     add-t

@@ -25,7 +25,7 @@ fill-state-requires : tie.Need-fill-state-requires Inv-loop μ-loop
 fill-state-requires c κs =
     let l = c .before .before in
     let s = l .before .before in
-    (s .pre .0, s .pre .1, s .pre .2, omega arith, l .loop .inv .1)
+    (s .pre, omega arith, l .loop .inv .1)
 
 add-p : tie.Need-add-p Inv-loop μ-loop
 add-p c = search needs

@@ -25,7 +25,7 @@ abbrev μ-loop : tie.MeasureT-loop
 returns : tie.Need-returns Inv-loop μ-loop
 returns c =
     let s = c .before .before in
-    sym (wrong-length (s .args .b .now) (s .args .plan .now) (λ e. c .if1 .taken (e ∙ sym (s .pre .1 .s-is))))
+    sym (wrong-length (s .args .b .now) (s .args .plan .now) (λ e. c .if1 .taken (e ∙ sym (s .pre .checked .sizes .s-is))))
 
 first-marks-requires : tie.Need-first-marks-requires Inv-loop μ-loop
 first-marks-requires c κs = search needs
@@ -34,7 +34,7 @@ loop-holds : tie.Need-loop-holds Inv-loop μ-loop
 loop-holds c =
     let s = c .before .before .before in (
       omega arith,
-      begin (s .args .b .now) (s .args .plan .now) (c .first-marks .result) (c .before .if1 .left ∙ s .pre .1 .s-is) (c .first-marks .ensures),
+      begin (s .args .b .now) (s .args .plan .now) (c .first-marks .result) (c .before .if1 .left ∙ s .pre .checked .sizes .s-is) (c .first-marks .ensures),
     )
 
 shared-slice-read-c : tie.Need-shared-slice-read-c Inv-loop μ-loop
@@ -46,7 +46,7 @@ cast-c c = omega (arith, c .shared-slice-known2 .given (c .before .before .loop 
 array-read-reached : tie.Need-array-read-reached Inv-loop μ-loop
 array-read-reached c =
     let s = c .before .before .before .before .before .before in
-    let z = accepted (s .args .b .now) (s .pre .0) .sizes in
+    let z = accepted (s .args .b .now) (s .pre .checked .ok) .sizes in
     omega arith
 
 byte-allowed-requires : tie.Need-byte-allowed-requires Inv-loop μ-loop
@@ -81,9 +81,7 @@ mark-nexts-requires : tie.Need-mark-nexts-requires Inv-loop μ-loop
 mark-nexts-requires c κs =
     let e = c .before .before in
     let i = l e .loop in (
-      s e .pre .0,
-      s e .pre .1,
-      s e .pre .2,
+      s e .pre,
       omega arith,
       byte-action (ws e) (bs e) (i .p) (i .marks) (i .inv .1) (omega arith) (fit e) (c .before .if3 .taken),
     )
@@ -101,9 +99,9 @@ loop-again c =
       omega arith,
       ⊎-elim
           (λ w. subst (Pass (ws e) (bs e) (i .p + 1)) (sym (w .3 ∙ w .2 .ensures))
-          (pass-reached (ws e) (bs e) (i .p) (i .marks) (i .inv .1) (omega arith) (fit e) (s e .pre .0)))
+          (pass-reached (ws e) (bs e) (i .p) (i .marks) (i .inv .1) (omega arith) (fit e) (s e .pre .checked .ok)))
           (λ w. subst (Pass (ws e) (bs e) (i .p + 1)) (sym (w .1))
-          (pass-unreached (ws e) (bs e) (i .p) (i .marks) (i .inv .1) (omega arith) (fit e) (s e .pre .0) (w .0 .left)))
+          (pass-unreached (ws e) (bs e) (i .p) (i .marks) (i .inv .1) (omega arith) (fit e) (s e .pre .checked .ok) (w .0 .left)))
           (c .if3 .came),
     )
 

@@ -27,9 +27,9 @@ loop-holds c =
     let s = c .before .before in
     let ws = s .args .b .now in
     let bs = s .args .plan .now in (
-      accepted ws (s .pre .0) .sizes .s-high,
+      accepted ws (s .pre .0 .checked .ok) .sizes .s-high,
       omega arith,
-      policy-long ws (s .pre .0) bs (s .pre .3),
+      policy-long ws (s .pre .0 .checked .ok) bs (s .pre .1),
       begin ws bs (c .first-weights .result) (c .first-weights .ensures),
     )
 
@@ -52,12 +52,10 @@ spread-action-requires c κs =
     let ws = s .args .b .now in
     let bs = s .args .plan .now in (
       s .pre .0,
-      s .pre .1,
-      s .pre .2,
       omega arith,
-      byte-action ws (s .pre .0) bs (s .pre .3) (i .p) (omega arith) (c .before .if1 .taken),
+      byte-action ws (s .pre .0 .checked .ok) bs (s .pre .1) (i .p) (omega arith) (c .before .if1 .taken),
       i .inv .3 .long,
-      room ws (s .pre .0) bs (s .pre .3) (i .p) (omega arith) (i .w) (i .inv .3),
+      room ws (s .pre .0 .checked .ok) bs (s .pre .1) (i .p) (omega arith) (i .w) (i .inv .3),
     )
 
 add-p : tie.Need-add-p Inv-loop μ-loop
@@ -77,9 +75,9 @@ loop-again c =
       i .inv .2,
       ⊎-elim
           (λ k. subst (Passed ws bs (i .p + 1)) (sym (k .3))
-          (pass-action ws (s .pre .0) bs (s .pre .3) (i .p) (omega arith) (i .w) (i .inv .3) _ (k .2 .ensures)))
+          (pass-action ws (s .pre .0 .checked .ok) bs (s .pre .1) (i .p) (omega arith) (i .w) (i .inv .3) _ (k .2 .ensures)))
           (λ k. subst (Passed ws bs (i .p + 1)) (sym (k .1))
-          (pass-none ws (s .pre .0) bs (s .pre .3) (i .p) (omega arith) (i .w) (i .inv .3) (k .0 .left)))
+          (pass-none ws (s .pre .0 .checked .ok) bs (s .pre .1) (i .p) (omega arith) (i .w) (i .inv .3) (k .0 .left)))
           (c .if1 .came),
     )
 
@@ -87,7 +85,7 @@ returns : tie.Need-returns Inv-loop μ-loop
 returns c =
     let i = c .before .loop in
     let s = c .before .before .before .before in
-    finish (s .args .b .now) (s .pre .0) (s .args .plan .now) (i .p) (omega arith) (i .w) (i .inv .3)
+    finish (s .args .b .now) (s .pre .0 .checked .ok) (s .args .plan .now) (i .p) (omega arith) (i .w) (i .inv .3)
 
 pub reach-weights-spec : {M : Type 1} → statement M
 reach-weights-spec =

@@ -1,12 +1,12 @@
 -- The entries of the first c actions are filled, and j is the first line of action c.
 -- Assumes nothing.
-use mathlib.Core.Path.{_≡_, sym, ap, _∙_, subst}
+use mathlib.Core.Path.{_≡_, sym, _∙_, subst}
 use Prim.Native.Nat.{_-_, _≤_, _<_}
 use native.Mathlib.Omega.{arith}
-use Rattle.model.specs.Model.{actionCount, lineAfter, actionLine}
+use Rattle.model.specs.Model.{actionCount, actionLine}
 use Rattle.accepted.specs.Facts.{accepted}
-use Rattle.index.proofs.Lines.{line-start, line-next, first-inside}
-use Rattle.index.proofs.Signs.{first-up}
+use Rattle.index.specs.Index.{ActionAt}
+use Rattle.index.proofs.Lines.{line-start}
 use Rattle.costs.proofs.Sums.{read64}
 use Rattle.table.specs.Table.{FilledTo}
 use Rattle.table.proofs.Rows.{filled-none, filled-more}
@@ -28,7 +28,7 @@ unit-requires : tie.Need-unit-requires Inv-loop μ-loop
 unit-requires c κs = search needs
 
 state : (c : tie.After-count Inv-loop μ-loop) → c .before .args .p < 64
-state c = let s = c .before in omega (arith, s .pre .3, accepted (s .args .b .now) (s .pre .0) .sizes .s-high)
+state c = let s = c .before in omega (arith, s .pre .1, accepted (s .args .b .now) (s .pre .0 .checked .ok) .sizes .s-high)
 
 mul-j : tie.Need-mul-j Inv-loop μ-loop
 mul-j c = omega (arith, state (c .before))
@@ -42,22 +42,27 @@ loop-holds c =
     let ws = s .args .b .now in (
       omega arith,
       state (c .before .before),
-      omega (arith, c .before .before .count .ensures, accepted ws (s .pre .0) .counts-high (s .args .p) (s .pre .3)),
-      filled-none ws (s .args .p) (s .args .v .now) (s .args .q .now) (s .pre .5),
-      s .pre .2 .line (s .args .p) (s .pre .3) ∙ sym (line-start ws (s .args .p)),
+      omega (arith, c .before .before .count .ensures, accepted ws (s .pre .0 .checked .ok) .counts-high (s .args .p) (s .pre .1)),
+      filled-none ws (s .args .p) (s .args .v .now) (s .args .q .now) (s .pre .3),
+      s .pre .0 .index .line (s .args .p) (s .pre .1) ∙ sym (line-start ws (s .args .p)),
     )
+
+-- action c and its first line
+here : (c : tie.In-loop Inv-loop μ-loop) → let l = c .before in
+    let s = l .before .before .before .before in
+    ActionAt (s .args .b .now) (s .args .p) (l .loop .c) (l .loop .j)
+here c =
+    let l = c .before in
+    let s = l .before .before .before .before in
+    record { state = s .pre .1; action = omega (arith, l .before .before .before .count .ensures); line-is = l .loop .inv .4 }
+
+of-line-requires : tie.Need-of-line-requires Inv-loop μ-loop
+of-line-requires c κs = (c .before .before .before .before .before .pre .0, here c)
 
 action-cost-requires : tie.Need-action-cost-requires Inv-loop μ-loop
 action-cost-requires c κs =
-    let l = c .before in
-    let s = l .before .before .before .before in (
-      s .pre .0,
-      s .pre .1,
-      s .pre .2,
-      record { state = s .pre .3; action = omega (arith, l .before .before .before .count .ensures); line-is = l .loop .inv .4 },
-      l .before .before .unit .ensures,
-      s .pre .4,
-    )
+    let l = c .before .before in
+    (c .of-line .ensures, l .before .before .unit .ensures, l .before .before .before .before .pre .2)
 
 mul-y : tie.Need-mul-y Inv-loop μ-loop
 mul-y c = omega arith
@@ -74,18 +79,7 @@ element-set-from-y c = omega arith
 line-after-requires : tie.Need-line-after-requires Inv-loop μ-loop
 line-after-requires c κs =
     let l = c .before .before in
-    let s = l .before .before .before .before in
-    let ws = s .args .b .now in (
-      s .pre .0,
-      s .pre .1,
-      omega (
-        arith,
-        l .loop .inv .4,
-        first-inside ws (s .pre .0) (s .args .p) (s .pre .3) (l .loop .c) (omega (arith, l .before .before .before .count .ensures)),
-      ),
-      rw (l .loop .inv .4)
-          (first-up ws (s .pre .0) (s .args .p) (s .pre .3) (l .loop .c) (omega (arith, l .before .before .before .count .ensures))),
-    )
+    (l .before .before .before .before .before .pre .0 .checked, here l)
 
 add-c : tie.Need-add-c Inv-loop μ-loop
 add-c c = search needs
@@ -95,7 +89,7 @@ loop-less c = search needs
 
 loop-again : tie.Need-loop-again Inv-loop μ-loop
 loop-again c =
-    let l = c .before .before .before in
+    let l = c .before .before .before .before in
     let s = l .before .before .before .before in
     let ws = s .args .b .now in
     let y = c .before .action-cost in
@@ -105,7 +99,7 @@ loop-again c =
       l .loop .inv .2,
       filled-more ws (s .args .p) (l .loop .c) (s .args .v .now) (s .args .q .now) (l .loop .q) (y .result) (l .loop .inv .1) (omega arith)
           (l .loop .inv .3) (y .ensures),
-      c .line-after .ensures ∙ ap (lineAfter ws) (l .loop .inv .4) ∙ sym (line-next ws (s .args .p) (l .loop .c)),
+      c .line-after .ensures,
     )
 
 returns : tie.Need-returns Inv-loop μ-loop
@@ -127,6 +121,7 @@ fill-row-spec =
     mul-j
     element-copy-out-j
     loop-holds
+    of-line-requires
     action-cost-requires
     mul-y
     add-y

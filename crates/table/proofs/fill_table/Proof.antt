@@ -24,12 +24,12 @@ abbrev μ-loop : tie.MeasureT-loop
 
 loop-holds : tie.Need-loop-holds Inv-loop μ-loop
 loop-holds s =
-    let a = accepted (s .args .b .now) (s .pre .0) .sizes in (
+    let a = accepted (s .args .b .now) (s .pre .0 .checked .ok) .sizes in (
       a .s-high,
       omega arith,
       record {
-        rows = s .pre .3;
-        long = s .pre .4;
+        rows = s .pre .1;
+        long = s .pre .2;
         through-is = λ p c l h k. absurd (omega arith);
         least-is = λ p l h. absurd (omega arith);
       },
@@ -44,23 +44,22 @@ fill-row-requires c κs =
     let s = l .before in
     let ws = s .args .b .now in (
       s .pre .0,
-      s .pre .1,
-      s .pre .2,
       omega arith,
-      least-bounded ws (s .pre .0) (l .loop .p - 1) (l .loop .v) (λ q a h. l .loop .inv .2 .least-is q (omega arith) (state-alive ws (s .pre .0) q h)),
+      least-bounded ws (s .pre .0 .checked .ok) (l .loop .p - 1) (l .loop .v)
+          (λ q a h. l .loop .inv .2 .least-is q (omega arith) (state-alive ws (s .pre .0 .checked .ok) q h)),
       l .loop .inv .2 .rows,
     )
 
 count-requires : tie.Need-count-requires Inv-loop μ-loop
 count-requires c κs =
     let s = c .before .before .before .before .before in
-    (s .pre .0, s .pre .1, omega arith)
+    (s .pre .0 .checked, omega arith)
 
 least-of-row-requires : tie.Need-least-of-row-requires Inv-loop μ-loop
 least-of-row-requires c κs =
     let l = c .before .before .before .before .before .before in
     let s = l .before in
-    let a = accepted (s .args .b .now) (s .pre .0) in (
+    let a = accepted (s .args .b .now) (s .pre .0 .checked .ok) in (
       omega arith,
       omega (arith, c .before .count .ensures, a .counts-low (l .loop .p - 1) (omega arith)),
       omega (arith, c .before .count .ensures, a .counts-high (l .loop .p - 1) (omega arith)),
@@ -89,9 +88,9 @@ loop-again c =
     rw (read64 (y .result) (y .ok)) (
       l .loop .inv .0,
       omega arith,
-      table-more ws (s .pre .0) p (omega arith) (l .loop .q) (l .loop .v) r t (f .fill-row .ensures) (y .result)
+      table-more ws (s .pre .0 .checked .ok) p (omega arith) (l .loop .q) (l .loop .v) r t (f .fill-row .ensures) (y .result)
           (λ a. y .ensures ∙ ap (λ n. rowOf r p (bestOf (rowOf r p) (upFrom 0 n))) (c .before .before .count .ensures)
-          ∙ row-least ws (s .pre .0) p (omega arith) (l .loop .q) (l .loop .v) r t (f .fill-row .ensures) a),
+          ∙ row-least ws (s .pre .0 .checked .ok) p (omega arith) (l .loop .q) (l .loop .v) r t (f .fill-row .ensures) a),
     )
 
 returns : tie.Need-returns Inv-loop μ-loop

@@ -31,7 +31,7 @@ zeros-requires c κs = search needs
 loop-holds : tie.Need-loop-holds Inv-loop μ-loop
 loop-holds c =
     let s = c .before .before in
-    (accepted (s .args .b .now) (s .pre .0) .sizes .s-high, omega arith, c .zeros .ensures, λ q a h. absurd (omega arith))
+    (accepted (s .args .b .now) (s .pre .0 .checked .ok) .sizes .s-high, omega arith, c .zeros .ensures, λ q a h. absurd (omega arith))
 
 sub-p : tie.Need-sub-p Inv-loop μ-loop
 sub-p c = search needs
@@ -40,7 +40,7 @@ state-cost-requires : tie.Need-state-cost-requires Inv-loop μ-loop
 state-cost-requires c κs =
     let l = c .before .before in
     let s = l .before .before .before in
-    (s .pre .0, s .pre .1, s .pre .2, s .pre .3, omega arith, λ q a h. l .loop .inv .3 q (omega arith) h)
+    (s .pre .0, s .pre .1, omega arith, λ q a h. l .loop .inv .3 q (omega arith) h)
 
 mul-v : tie.Need-mul-v Inv-loop μ-loop
 mul-v c = omega arith
@@ -62,8 +62,8 @@ loop-again c =
       l .loop .inv .0,
       omega arith,
       length-set (l .loop .v) p (y .result) ∙ l .loop .inv .2,
-      holds-more ws (s .pre .0) (λ q. q < stateCount ws) (λ q. costToGo (scale ws) (taken ws (s .args .plan .now)) (togo ws q) q) p (l .loop .v) (y .result)
-          (omega (arith, l .loop .inv .2)) (λ h. y .ensures) (λ q a h. l .loop .inv .3 q (omega arith) h),
+      holds-more ws (s .pre .0 .checked .ok) (λ q. q < stateCount ws) (λ q. costToGo (scale ws) (taken ws (s .args .plan .now)) (togo ws q) q) p (l .loop .v)
+          (y .result) (omega (arith, l .loop .inv .2)) (λ h. y .ensures) (λ q a h. l .loop .inv .3 q (omega arith) h),
     )
 
 array-copy-out-result : tie.Need-array-copy-out-result Inv-loop μ-loop
@@ -76,10 +76,10 @@ returns c =
     let ws = s .args .b .now in
     let bs = s .args .plan .now in
     let e : l .loop .p ≡ 0 = omega arith in
-    let first : 0 < stateCount ws = shape ws (s .pre .0) .some-state in
+    let first : 0 < stateCount ws = shape ws (s .pre .0 .checked .ok) .some-state in
     read64 (getD (l .loop .v) 0 (pos 0)) (c .result .given) ∙ l .loop .inv .3 0 (omega arith) first
-    ∙ ap (λ m. costToGo (scale ws) (taken ws bs) m 0) (togo-start ws (s .pre .0))
-    ∙ sym (cost-recursion ws (s .pre .0) bs (true-T (s .pre .3)))
+    ∙ ap (λ m. costToGo (scale ws) (taken ws bs) m 0) (togo-start ws (s .pre .0 .checked .ok))
+    ∙ sym (cost-recursion ws (s .pre .0 .checked .ok) bs (true-T (s .pre .1)))
 
 pub policy-cost-spec : {M : Type 1} → statement M
 policy-cost-spec =

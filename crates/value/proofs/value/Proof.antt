@@ -27,10 +27,10 @@ read-sizes-requires : tie.Need-read-sizes-requires
 read-sizes-requires c κs = headed _ (good c)
 
 index-requires : tie.Need-index-requires
-index-requires c κs = (good (c .before), c .read-sizes .ensures)
+index-requires c κs = record { ok = good (c .before); sizes = c .read-sizes .ensures }
 
 is-policy-requires : tie.Need-is-policy-requires
-is-policy-requires c κs = (good (c .before .before .before), c .before .before .read-sizes .ensures, c .before .index .ensures)
+is-policy-requires c κs = c .before .index .ensures
 
 returns-2 : tie.Need-returns-2
 returns-2 c =
@@ -41,8 +41,7 @@ returns-2 c =
 policy-cost-requires : tie.Need-policy-cost-requires
 policy-cost-requires c κs =
     let p = c .before .before in
-    let i = p .before .before in
-    (good (i .before .before), i .before .read-sizes .ensures, i .index .ensures, yes′ (p .is-policy .ensures) (c .before .if2 .left))
+    (p .before .before .index .ensures, yes′ (p .is-policy .ensures) (c .before .if2 .left))
 
 returns-3 : tie.Need-returns-3
 returns-3 c =

@@ -1,0 +1,36 @@
+-- The transitions of an action by their numbers, and where its lines lie.
+-- Assumes nothing.
+use mathlib.Core.Path.{_≡_}
+use Prim.Native.Nat.{ℕ, _+_, _≤_, _<_}
+use lib.ListN.{length, getD}
+use Rattle.model.specs.Model.{Words, horizon, lineCount, firstState, stateCount, stage, actionCount, actionLine, Transition, action}
+use Rattle.model.specs.Questions.{bookNumber}
+use Rattle.lines.specs.declared.Lines.{Lines}
+
+-- what stands for a transition that an action does not have
+abbrev pub none : Transition
+none = record { next = 0; weight = 0 }
+
+-- transition i of action c of state p
+abbrev pub transition : Words → ℕ → ℕ → ℕ → Transition
+transition ws p c i = getD (action ws p c .transitions) i none
+
+-- t says where the lines of action c of state p lie
+pub record LinesOf (ws : Words) (p c : ℕ) (t : Lines) : Type 0 where
+  pub ok : bookNumber ws ≡ 0
+  pub state : p < stateCount ws
+  pub has : c < actionCount ws p
+  pub at-is : t .at ≡ 4 + horizon ws + stateCount ws + actionLine ws p c
+  pub r-is : t .r ≡ length (action ws p c .transitions)
+  pub l-is : t .l ≡ lineCount ws
+  pub base-is : t .base ≡ firstState ws (stage ws p + 1)
+
+-- r is the next state of transition i, one of the 64 that an array has places for
+pub record NextIs (ws : Words) (p c i r : ℕ) : Type 0 where
+  pub is : r ≡ transition ws p c i .next
+  pub low : r < 64
+
+-- r is its weight
+pub record WeightIs (ws : Words) (p c i r : ℕ) : Type 0 where
+  pub is : r ≡ transition ws p c i .weight
+  pub small : r ≤ 2147483648
