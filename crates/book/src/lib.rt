@@ -94,7 +94,7 @@ pub fn word_to(b: &[i32], i: usize, n: usize) -> bool
     size_at(b, i) <= n
 }
 
-// S, the number of states.
+// S, the number of states: the sum of at most nine counts, none above 2^31.
 fn states(b: &[i32], h: usize) -> usize
     requires { ⌜ (h ≡ horizon (now b)) × (h ≤ 8) × (4 + h ≤ length (now b)) ⌝ }
     ensures { λ r. ⌜ (r ≡ stateCount (now (b .entry))) × (r ≤ 19327352832) ⌝ }

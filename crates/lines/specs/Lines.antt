@@ -15,7 +15,7 @@ none = record { next = 0; weight = 0 }
 abbrev pub transition : Words → ℕ → ℕ → ℕ → Transition
 transition ws p c i = getD (action ws p c .transitions) i none
 
--- t says where the lines of action c of state p lie
+-- t says where the lines of action c of state p of an accepted book lie
 pub record LinesOf (ws : Words) (p c : ℕ) (t : Lines) : Type 0 where
   pub ok : bookNumber ws ≡ 0
   pub state : p < stateCount ws

@@ -1,4 +1,5 @@
-// The lines of one action of a checked book: where they lie and what they say. Every pass over transitions reads them here.
+// The lines of one action of a checked book: where they lie and what they say. Every pass over transitions reads them here. The look-ups take p and c
+// so that their contracts can name the action.
 use book::Sizes;
 ghost use mathlib.Core.Path.{_≡_};
 ghost use Prim.Native.Nat.{_<_};

@@ -6,7 +6,6 @@ use borrow.Author.Tests.{not-true, not-false}
 use Rattle.model.specs.Model.{branches, lineAfter}
 use Rattle.book.proofs.Columns.{branches-are}
 use Rattle.actions.proofs.Steps.{weights-no, weights-last, weights-sum}
-use borrow.Author.Needs.{needs}
 use Rattle.actions.proofs.weights_allowed.Statement.{statement}
 use Rattle.actions.proofs.weights_allowed.Tie as tie
 
