@@ -8,8 +8,7 @@ ghost use lib.IntN.{pos, _+ℤ_, _-ℤ_, _*ℤ_};
 ghost use lib.Dec.{eqb};
 ghost use lib.ListN.{getD};
 ghost use Rattle.model.specs.Model.{stateCount};
-ghost use Rattle.model.specs.Questions.{bookNumber};
-ghost use Rattle.book.specs.Read.{SizesAre};
+ghost use Rattle.index.specs.Index.{Checked};
 ghost use Rattle.sets.specs.Sets.{with};
 ghost use Rattle.table.specs.Table.{rowOf};
 ghost use Rattle.build.specs.Best.{RowsOf};
@@ -77,7 +76,7 @@ pub fn child_at(
     e: Parent,
     p: usize,
 ) -> Child
-    requires { ⌜ (bookNumber (now b) ≡ 0) × SizesAre (now b) z × RowsOf (now b) (now q) × Parenting (now b) e (now plan) (now w) × (e .split ≤ p) × (p < stateCount (now b)) ⌝ }
+    requires { ⌜ Checked (now b) z × RowsOf (now b) (now q) × Parenting (now b) e (now plan) (now w) × (e .split ≤ p) × (p < stateCount (now b)) ⌝ }
     ensures { λ r. ⌜ ChildIs (now (b .entry)) (entryOf e (now (plan .entry))) p r ⌝ }
 {
     let f = plan[p] as usize;

@@ -11,13 +11,11 @@ use Rattle.model.specs.Lists.{forEach}
 use Rattle.model.specs.Order.{ranking, rankingCosts}
 use Rattle.model.specs.Calls.{over}
 use Rattle.model.specs.Model.{Words, stateCount}
-use Rattle.model.specs.Questions.{bookNumber}
 use Rattle.model.specs.Policy.{Policy}
 use Rattle.accepted.specs.Demands.{bestPolicy}
 use Rattle.laws.specs.Members.{Every}
-use Rattle.book.specs.Read.{SizesAre}
 use Rattle.book.specs.declared.Sizes.{Sizes}
-use Rattle.index.specs.Index.{IndexOf}
+use Rattle.index.specs.Index.{Indexed}
 use Rattle.nexts.specs.Nexts.{NextsOf}
 use Rattle.build.specs.Best.{RowsOf, BestOf}
 use Rattle.pool.specs.Entries.{entries, firstEntry, Formed, beyondOf}
@@ -29,18 +27,12 @@ use Rattle.stored.specs.Runs.{itself, childrenOf, planOf, costIn}
 use Rattle.child.specs.declared.Child.{Child}
 use Rattle.child.specs.declared.Parent.{Parent}
 
--- a checked book with its sizes, its sets of next states, its table of action costs and its first best actions
-pub record Tables (ws : Words) (z : Sizes) (nx : List ℕ) (q : List ℤ) (best : List ℕ) : Type 0 where
-  pub ok : bookNumber ws ≡ 0
-  pub sizes : SizesAre ws z
+-- a checked book with its sizes and index, its sets of next states, its table of action costs and its first best actions
+pub record Ready (ws : Words) (z : Sizes) (x nx : List ℕ) (q : List ℤ) (best : List ℕ) : Type 0 where
+  pub indexed : Indexed ws z x
   pub next : NextsOf ws nx
   pub rows : RowsOf ws q
   pub firsts : BestOf ws best
-
--- and its index
-pub record Ready (ws : Words) (z : Sizes) (x nx : List ℕ) (q : List ℤ) (best : List ℕ) : Type 0 where
-  pub tables : Tables ws z nx q best
-  pub index : IndexOf ws x
 
 -- the row r begins with the bytes bs
 pub record RowOf (bs r : List ℕ) : Type 0 where

@@ -15,7 +15,7 @@ ghost use lib.ListN.{length, getD};
 ghost use Rattle.model.specs.Model.{stateCount, action};
 ghost use Rattle.model.specs.Questions.{bookNumber};
 ghost use Rattle.accepted.specs.Options.{Option};
-ghost use Rattle.book.specs.Read.{SizesAre};
+ghost use Rattle.index.specs.Index.{Checked};
 ghost use Rattle.nexts.specs.Nexts.{NextsOf};
 ghost use Rattle.build.specs.Best.{BestOf};
 ghost use Rattle.build.specs.Walk.{walkBy, chosen, Usable, Walked};
@@ -41,7 +41,7 @@ fn row_of(
     c: usize,
     from: u64,
 ) -> [u8; 64]
-    requires { ⌜ (bookNumber (now b) ≡ 0) × SizesAre (now b) z × NextsOf (now b) (now nx) × BestOf (now b) (now best) × Usable (now b) (now plan) p × (p < stateCount (now b)) × Option (now b) p c × Walked (now b) (now plan) p from ⌝ }
+    requires { ⌜ Checked (now b) z × NextsOf (now b) (now nx) × BestOf (now b) (now best) × Usable (now b) (now plan) p × (p < stateCount (now b)) × Option (now b) p c × Walked (now b) (now plan) p from ⌝ }
     ensures { λ r. ⌜ RowOf (walkBy (action (now (b .entry))) (chosen (now (b .entry)) (now (plan .entry)) p c) (stateCount (now (b .entry))) 0 (0 ∷ [])) r ⌝ }
 {
     let s = z.s;
@@ -167,7 +167,7 @@ fn search(
 
 // The pool of at most k with the first candidate: all policies, of which the first takes the first best actions and costs `cost`.
 fn first_pool(b: &[i32], z: Sizes, nx: &[u64; 512], best: &[usize; 64], cost: i64, k: usize) -> Pool
-    requires { ⌜ (bookNumber (now b) ≡ 0) × SizesAre (now b) z × NextsOf (now b) (now nx) × BestOf (now b) (now best) × (cost ≡ firstCandidate (now b) .cost) × (1 ≤ k) × (k ≤ 64) ⌝ }
+    requires { ⌜ Checked (now b) z × NextsOf (now b) (now nx) × BestOf (now b) (now best) × (cost ≡ firstCandidate (now b) .cost) × (1 ≤ k) × (k ≤ 64) ⌝ }
     ensures { λ r. ⌜ Formed r × (r .most ≡ k) × (entries (stateCount (now (b .entry))) r ≡ firstCandidate (now (b .entry)) ∷ []) ⌝ }
 {
     let first = best[0];

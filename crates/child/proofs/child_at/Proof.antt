@@ -29,7 +29,7 @@ en s = entryOf (s .args .e) (s .args .plan .now)
 shared-slice-read-f : tie.Need-shared-slice-read-f
 shared-slice-read-f c =
     let s = c .before .before in
-    in-plan (ws s) (s .pre .0) (s .args .q .now) (s .pre .2) (en s) (s .pre .3 .right) (s .args .p) (s .pre .5)
+    in-plan (ws s) (s .pre .0 .ok) (s .args .q .now) (s .pre .1) (en s) (s .pre .2 .right) (s .args .p) (s .pre .4)
 
 cast-f : tie.Need-cast-f
 cast-f c = omega (arith, c .shared-slice-known2 .given (c .before .before .args .p) .fits)
@@ -41,28 +41,28 @@ returns : tie.Need-returns
 returns c =
     let s = c .before .before .before .before in
     none-is (ws s) (en s) (s .args .p) _ (c .no-child .ensures)
-    (λ k es. unreached (ws s) (s .pre .0) (s .args .q .now) (s .pre .2) (en s) (s .pre .3 .right) (s .args .p) (s .pre .4) (s .pre .5) k es
+    (λ k es. unreached (ws s) (s .pre .0 .ok) (s .args .q .now) (s .pre .1) (en s) (s .pre .2 .right) (s .args .p) (s .pre .3) (s .pre .4) k es
     (c .before .if1 .taken))
 
 mask-at-requires : tie.Need-mask-at-requires
 mask-at-requires c κs =
     let s = c .before .before .before in
-    small (ws s) (s .pre .0) (s .args .q .now) (s .pre .2) (en s) (s .pre .3 .right) (s .args .p) (s .pre .4) (s .pre .5) 0 [] (c .if1 .left)
+    small (ws s) (s .pre .0 .ok) (s .args .q .now) (s .pre .1) (en s) (s .pre .2 .right) (s .args .p) (s .pre .3) (s .pre .4) 0 [] (c .if1 .left)
 
 count-requires : tie.Need-count-requires
 count-requires c κs =
     let s = c .before .before .before .before in
-    (s .pre .0, s .pre .1, s .pre .5)
+    (s .pre .0, s .pre .4)
 
 best-action-requires : tie.Need-best-action-requires
 best-action-requires c κs =
     let s = c .before .before .before .before .before in (
-      below-64 (ws s) (s .pre .0) (s .args .q .now) (s .pre .2) (en s) (s .pre .3 .right) (s .args .p) (s .pre .4) (s .pre .5) 0 [],
+      below-64 (ws s) (s .pre .0 .ok) (s .args .q .now) (s .pre .1) (en s) (s .pre .2 .right) (s .args .p) (s .pre .3) (s .pre .4) 0 [],
       omega (
         arith,
         c .count .ensures,
-        few-actions (ws s) (s .pre .0) (s .args .q .now) (s .pre .2) (en s) (s .pre .3 .right) (s .args .p)
-            (s .pre .4) (s .pre .5) 0 [],
+        few-actions (ws s) (s .pre .0 .ok) (s .args .q .now) (s .pre .1) (en s) (s .pre .2 .right) (s .args .p)
+            (s .pre .3) (s .pre .4) 0 [],
       ),
     )
 
@@ -74,7 +74,7 @@ returns-2 c =
     let t = c .before in
     let s = t .before .before .before .before .before .before .before in
     none-is (ws s) (en s) (s .args .p) _ (c .no-child2 .ensures)
-    (λ k es. none (ws s) (s .pre .0) (s .args .q .now) (s .pre .2) (en s) (s .pre .3 .right) (s .args .p) (s .pre .4) (s .pre .5) k es
+    (λ k es. none (ws s) (s .pre .0 .ok) (s .args .q .now) (s .pre .1) (en s) (s .pre .2 .right) (s .args .p) (s .pre .3) (s .pre .4) k es
     (t .before .before .before .before .if1 .left) _ _ _ (t .before .before .before .mask-at .ensures) (t .before .before .count .ensures)
     (t .before .best-action .ensures) (t .if2 .taken))
 
@@ -85,19 +85,19 @@ module _ (c : tie.Else2) where
 
   child : ChildAt (ws s) (en s) (s .args .p) (c .before .best-action .result) (c .before .before .before .mask-at .result)
   child =
-      child-at (ws s) (s .pre .0) (s .args .q .now) (s .pre .2) (en s) (s .pre .3 .right) (s .args .p) (s .pre .4) (s .pre .5) 0 []
+      child-at (ws s) (s .pre .0 .ok) (s .args .q .now) (s .pre .1) (en s) (s .pre .2 .right) (s .args .p) (s .pre .3) (s .pre .4) 0 []
       (c .before .before .before .before .if1 .left) _ _ _ (c .before .before .before .mask-at .ensures) (c .before .before .count .ensures)
       (c .before .best-action .ensures) (c .if2 .left)
 
   known : Facts (ws s) (s .args .q .now) (en s) (s .args .w .now) (s .args .p) (c .before .best-action .result)
       (getD (s .args .plan .now) (s .args .p) 0)
   known =
-      facts (ws s) (s .pre .0) (s .args .q .now) (s .pre .2) (en s) (s .pre .3 .right) (s .args .w .now)
-      (s .pre .3 .weights) (s .args .p) (c .before .best-action .result) (c .before .before .before .mask-at .result) child
+      facts (ws s) (s .pre .0 .ok) (s .args .q .now) (s .pre .1) (en s) (s .pre .2 .right) (s .args .w .now)
+      (s .pre .2 .weights) (s .args .p) (c .before .best-action .result) (c .before .before .before .mask-at .result) child
 
   joins : (k : ℕ) (es : List Entry) → joined k (childEntry (ws s) (en s) (s .args .p)) es ≡ admitted (ws s) k (en s) (s .args .p) es
   joins k es =
-      one (ws s) (s .pre .0) (s .args .q .now) (s .pre .2) (en s) (s .pre .3 .right) (s .args .p) (s .pre .4) (s .pre .5) k es
+      one (ws s) (s .pre .0 .ok) (s .args .q .now) (s .pre .1) (en s) (s .pre .2 .right) (s .args .p) (s .pre .3) (s .pre .4) k es
       (c .before .before .before .before .if1 .left) _ _ _ (c .before .before .before .mask-at .ensures) (c .before .before .count .ensures)
       (c .before .best-action .ensures) (c .if2 .left)
 

@@ -26,10 +26,10 @@ abbrev ws : tie.Start → Words
 ws s = s .args .b .now
 
 few : (s : tie.Start) → s .args .z .s ≤ 64
-few s = omega (arith, s .pre .1 .s-is, accepted (ws s) (s .pre .0) .sizes .s-high)
+few s = omega (arith, s .pre .0 .sizes .s-is, accepted (ws s) (s .pre .0 .ok) .sizes .s-high)
 
 best-first : (s : tie.Start) → getD (s .args .best .now) 0 0 ≡ bestAt (ws s) 0
-best-first s = s .pre .3 .best-is 0 (shape (ws s) (s .pre .0) .some-state)
+best-first s = s .pre .2 .best-is 0 (shape (ws s) (s .pre .0 .ok) .some-state)
 
 element-copy-out-first : tie.Need-element-copy-out-first
 element-copy-out-first c = search needs
@@ -47,10 +47,9 @@ row-of-requires c κs =
       h .0,
       h .1,
       h .2,
-      h .3,
       (λ i l. absurd (omega arith)),
-      shape (ws s) (h .0) .some-state,
-      subst (Option (ws s) 0) (sym (best-first s)) (best-option (ws s) 0 (state-alive (ws s) (h .0) 0 (shape (ws s) (h .0) .some-state))),
+      shape (ws s) (h .0 .ok) .some-state,
+      subst (Option (ws s) 0) (sym (best-first s)) (best-option (ws s) 0 (state-alive (ws s) (h .0 .ok) 0 (shape (ws s) (h .0 .ok) .some-state))),
       walked-none (ws s) (c .before .zeros .result) 1 first-set,
     )
 
@@ -58,7 +57,7 @@ single-requires : tie.Need-single-requires
 single-requires c κs =
     let r = c .before in
     let s = r .before .before .before .before in
-    (s .pre .5, s .pre .6, few s, r .row-of .ensures .long)
+    (s .pre .4, s .pre .5, few s, r .row-of .ensures .long)
 
 returns : tie.Need-returns
 returns c =
@@ -67,13 +66,13 @@ returns c =
     let s = z .before .before in
     let i = c .single .ensures in
     let best : RowOf (bestPolicy (ws s)) (r .row-of .result) =
-    subst (λ (bs : List ℕ). RowOf bs (r .row-of .result)) (first-walk (ws s) (s .pre .0) (z .zeros .result) _ (best-first s)) (r .row-of .ensures)
+    subst (λ (bs : List ℕ). RowOf bs (r .row-of .result)) (first-walk (ws s) (s .pre .0 .ok) (z .zeros .result) _ (best-first s)) (r .row-of .ensures)
     in (
       i .0,
       i .1,
-      first-alone (c .single .result) (stateCount (ws s)) (firstCandidate (ws s)) (s .pre .1 .s-is)
-          (read64 (s .args .cost) (s .fits .cost .sfits) ∙ s .pre .4)
-          (row-take (s .args .z .s) best (best-long (ws s) (s .pre .0) ∙ sym (s .pre .1 .s-is))) (i .2),
+      first-alone (c .single .result) (stateCount (ws s)) (firstCandidate (ws s)) (s .pre .0 .sizes .s-is)
+          (read64 (s .args .cost) (s .fits .cost .sfits) ∙ s .pre .3)
+          (row-take (s .args .z .s) best (best-long (ws s) (s .pre .0 .ok) ∙ sym (s .pre .0 .sizes .s-is))) (i .2),
     )
 
 pub first-pool-spec : {M : Type 1} → statement M

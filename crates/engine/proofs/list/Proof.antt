@@ -16,17 +16,17 @@ read-sizes-requires : tie.Need-read-sizes-requires
 read-sizes-requires c κs = headed _ (c .before .pre .0)
 
 index-requires : tie.Need-index-requires
-index-requires c κs = (c .before .before .pre .0, c .read-sizes .ensures)
+index-requires c κs = record { ok = c .before .before .pre .0; sizes = c .read-sizes .ensures }
 
 next-sets-requires : tie.Need-next-sets-requires
-next-sets-requires c κs = (c .before .before .before .before .pre .0, c .before .before .read-sizes .ensures, c .before .index .ensures)
+next-sets-requires c κs = c .before .index .ensures
 
 make-table-requires : tie.Need-make-table-requires
-make-table-requires c κs = (c .before .before .before .before .before .before .pre .0, c .before .before .before .before .read-sizes .ensures, c .before .before .before .index .ensures)
+make-table-requires c κs = c .before .before .before .index .ensures
 
 best-actions-requires : tie.Need-best-actions-requires
 best-actions-requires c κs =
-    (c .before .before .before .before .before .before .before .before .before .pre .0, c .before .before .before .before .before .before .before .read-sizes .ensures, table-rows _ _ _ (c .before .before .make-table .ensures))
+    (c .before .before .before .before .before .before .index .ensures .checked, table-rows _ _ _ (c .before .before .make-table .ensures))
 
 element-copy-out-first-pool : tie.Need-element-copy-out-first-pool
 element-copy-out-first-pool c = search needs
@@ -35,8 +35,7 @@ first-pool-requires : tie.Need-first-pool-requires
 first-pool-requires c κs =
     let t = c .before .before .before .before .before .before in
     let s = t .before .before .before .before .before .before .before in (
-      s .pre .0,
-      t .before .before .before .before .before .read-sizes .ensures,
+      t .before .before .before .before .index .ensures .checked,
       t .before .before .next-sets .ensures,
       c .before .before .before .best-actions .ensures,
       cost-first (s .args .b .now) (s .pre .0) _ _ (t .make-table .ensures),
@@ -50,14 +49,10 @@ search-requires c κs =
     let t = f .before .before .before .before .before .before .before in
     let s = t .before .before .before .before .before .before .before in (
       record {
-        tables = record {
-          ok = s .pre .0;
-          sizes = t .before .before .before .before .before .read-sizes .ensures;
-          next = t .before .before .next-sets .ensures;
-          rows = table-rows _ _ _ (t .make-table .ensures);
-          firsts = f .before .before .before .before .best-actions .ensures;
-        };
-        index = t .before .before .before .before .index .ensures;
+        indexed = t .before .before .before .before .index .ensures;
+        next = t .before .before .next-sets .ensures;
+        rows = table-rows _ _ _ (t .make-table .ensures);
+        firsts = f .before .before .before .before .best-actions .ensures;
       },
       record {
         formed = f .first-pool .ensures .0;

@@ -21,12 +21,12 @@ abbrev walk : tie.Start → List ℕ
 walk s = walkBy (action (ws s)) (chosen (ws s) (s .args .plan .now) (s .args .p) (s .args .c)) (stateCount (ws s)) 0 (0 ∷ [])
 
 few : (s : tie.Start) → s .args .z .s ≤ 64
-few s = omega (arith, s .pre .1 .s-is, accepted (ws s) (s .pre .0) .sizes .s-high)
+few s = omega (arith, s .pre .0 .sizes .s-is, accepted (ws s) (s .pre .0 .ok) .sizes .s-high)
 
 long : (s : tie.Start) → length (walk s) ≡ s .args .z .s
 long s =
     walk-long (action (ws s)) (chosen (ws s) (s .args .plan .now) (s .args .p) (s .args .c)) (stateCount (ws s)) 0 (0 ∷ [])
-    ∙ sym (s .pre .1 .s-is)
+    ∙ sym (s .pre .0 .sizes .s-is)
 
 row-long : (row : List ℕ) → length row ≡ 64 → (s : tie.Start) → length (take (s .args .z .s) row) ≡ s .args .z .s
 row-long row h s = length-take-le (s .args .z .s) row (omega (arith, few s))
@@ -44,7 +44,7 @@ build-requires : tie.Need-build-requires
 build-requires c κs =
     let s = c .before .before .before in
     let h = s .pre in
-    (h .0, h .2, h .3, h .4, h .5, h .6, h .7, row-long (c .before .zeros .result) (c .before .zeros .ensures) s ∙ h .1 .s-is)
+    (h .0 .ok, h .1, h .2, h .3, h .4, h .5, h .6, row-long (c .before .zeros .result) (c .before .zeros .ensures) s ∙ h .0 .sizes .s-is)
 
 returns : tie.Need-returns
 returns c =

@@ -12,6 +12,7 @@ use mir.Val.{toZ, ofZ}
 use borrow.Rule.Slice.PartMut.{putMid}
 use Rattle.model.specs.Model.{Words, stateCount}
 use Rattle.accepted.specs.Facts.{accepted}
+use Rattle.index.specs.Index.{Checked}
 use Rattle.accepted.specs.Bytes.{policy-long}
 use Rattle.costs.proofs.Sums.{read64}
 use Rattle.bytes_io.specs.Slices.{written}
@@ -21,7 +22,7 @@ use Rattle.stored.specs.Runs.{runEntries}
 use Rattle.pool.specs.declared.Pool.{Pool}
 use Rattle.pool.specs.Entries.{row, entries, firstEntry, Formed}
 use Rattle.pool.proofs.Moves.{slot-low}
-use Rattle.engine.specs.Engine.{Tables, splitPool, Found}
+use Rattle.engine.specs.Engine.{splitPool, Found}
 use Rattle.engine.proofs.Listing.{pool-empty, Listing, begin, finish, done, none-waits, first-right, pool-next, pool-last}
 use Rattle.engine.proofs.Parts.{part-long, put-long, put-is, put-read}
 use borrow.Author.Needs.{needs}
@@ -51,14 +52,14 @@ module _ (s : tie.Start Inv-loop μ-loop) where
   abbrev start : List Entry
   start = entries S (s .args .t7)
 
-  abbrev tables : Tables ws (s .args .z) (s .args .nx .now) (s .args .q .now) (s .args .best .now)
-  tables = s .pre .0 .tables
+  abbrev known : Checked ws (s .args .z)
+  known = s .pre .0 .indexed .checked
 
   all : n ≡ S
-  all = tables .sizes .s-is
+  all = known .sizes .s-is
 
   few : n ≤ 64
-  few = omega (arith, all, accepted ws (tables .ok) .sizes .s-high)
+  few = omega (arith, all, accepted ws (known .ok) .sizes .s-high)
 
 loop-holds : tie.Need-loop-holds Inv-loop μ-loop
 loop-holds c =
@@ -67,7 +68,7 @@ loop-holds c =
       h .formed,
       refl,
       omega arith,
-      begin (ws s) (tables s .ok) (k s) (start s) (s .args .costs .now) (s .args .plans .now) (h .rights),
+      begin (ws s) (known s .ok) (k s) (start s) (s .args .costs .now) (s .args .plans .now) (h .rights),
     )
 
 -- at the head of the loop
@@ -84,15 +85,15 @@ module _ (a : tie.At-loop Inv-loop μ-loop) where
   finished : runEntries (ws s) (k s) (k s - a .loop .j) es ≡ []
       → Found (runEntries (ws s) (k s) (k s) (start s)) (a .loop .j) (s .args .costs .now) (a .loop .costs) (s .args .plans .now) (a .loop .plans)
   finished =
-      finish (ws s) (tables s .ok) (k s) (start s) (s .args .costs .now) (s .args .plans .now) (a .loop .j) es (a .loop .costs) (a .loop .plans)
+      finish (ws s) (known s .ok) (k s) (start s) (s .args .costs .now) (s .args .plans .now) (a .loop .j) es (a .loop .costs) (a .loop .plans)
       (a .loop .inv .3)
 
   none-left : pool .count ≡ 0 → runEntries (ws s) (k s) (k s - a .loop .j) es ≡ []
   none-left h =
-      none-waits (ws s) (tables s .ok) (k s) (start s) (s .args .costs .now) (s .args .plans .now) (k s - a .loop .j) es (pool-empty (S s) pool h)
+      none-waits (ws s) (known s .ok) (k s) (start s) (s .args .costs .now) (s .args .plans .now) (k s - a .loop .j) es (pool-empty (S s) pool h)
 
   all-listed : k s ≤ a .loop .j → runEntries (ws s) (k s) (k s - a .loop .j) es ≡ []
-  all-listed h = done (ws s) (tables s .ok) (k s) (start s) (s .args .costs .now) (s .args .plans .now) (a .loop .j) es h
+  all-listed h = done (ws s) (known s .ok) (k s) (start s) (s .args .costs .now) (s .args .plans .now) (a .loop .j) es h
 
 same-length : tie.Need-same-length Inv-loop μ-loop
 same-length c = c .before .before .loop .inv .3 .costs-long
@@ -130,11 +131,11 @@ module _ (e : tie.Else1 Inv-loop μ-loop) where
 
   right : Right (ws g) first
   right =
-      first-right (ws g) (tables g .ok) (k g) (start g) (g .args .costs .now) (g .args .plans .now) j (pool a) (a .loop .costs) (a .loop .plans)
+      first-right (ws g) (known g .ok) (k g) (start g) (g .args .costs .now) (g .args .plans .now) j (pool a) (a .loop .costs) (a .loop .plans)
       (a .loop .inv .3) formed some
 
   long : length (first .plan) ≡ S g
-  long = policy-long (ws g) (tables g .ok) (first .plan) (plan-model (ws g) (tables g .ok) first right)
+  long = policy-long (ws g) (known g .ok) (first .plan) (plan-model (ws g) (known g .ok) first right)
 
   more : j < k g
   more = e .before .loop-test .taken
@@ -273,7 +274,7 @@ loop-again c =
       q .formed,
       q .same-most ∙ m,
       omega (arith, more i),
-      pool-next (ws (g i)) (tables (g i) .ok) (k (g i)) (start (g i)) (g i .args .costs .now) (g i .args .plans .now) (j i) (pool (a i))
+      pool-next (ws (g i)) (known (g i) .ok) (k (g i)) (start (g i)) (g i .args .costs .now) (g i .args .plans .now) (j i) (pool (a i))
           (a i .loop .costs) (a i .loop .plans) (a i .loop .inv .3) (formed i) (some i) (more i) (g i .pre .1 .costs-room) (g i .pre .1 .plans-room)
           (cost-is r) (rows-are (o r) (r .read-row .ensures)) (q .waits ∙ ap (λ (m : ℕ). splitPool (ws (g i)) m (es (a i))) m),
     )
@@ -288,7 +289,7 @@ loop-again-2 c =
       formed i,
       a i .loop .inv .1,
       omega (arith, more i),
-      pool-last (ws (g i)) (tables (g i) .ok) (k (g i)) (start (g i)) (g i .args .costs .now) (g i .args .plans .now) (j i) (pool (a i))
+      pool-last (ws (g i)) (known (g i) .ok) (k (g i)) (start (g i)) (g i .args .costs .now) (g i .args .plans .now) (j i) (pool (a i))
           (a i .loop .costs) (a i .loop .plans) (a i .loop .inv .3) (formed i) (some i) (more i) (g i .pre .1 .costs-room) (g i .pre .1 .plans-room)
           (cost-is r) (rows-are (o r) (r .read-row .ensures)) (c .if2 .left),
     )

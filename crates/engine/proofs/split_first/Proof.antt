@@ -14,6 +14,7 @@ use mir.Val.{toZ, ofZ}
 use Rattle.model.specs.Model.{Words, stateCount}
 use Rattle.model.specs.Policy.{isPolicy}
 use Rattle.accepted.specs.Facts.{accepted}
+use Rattle.index.specs.Index.{Checked}
 use Rattle.accepted.specs.Options.{Option}
 use Rattle.costs.proofs.Sums.{read64}
 use Rattle.stored.specs.Entry.{Entry}
@@ -28,7 +29,7 @@ use Rattle.child.specs.declared.Child.{Child}
 use Rattle.child.specs.Children.{entryOf, joinedIf}
 use Rattle.child.proofs.Plans.{usable}
 use Rattle.child.proofs.Children.{own-walk, action-or-none}
-use Rattle.engine.specs.Engine.{mayEnter, Tables}
+use Rattle.engine.specs.Engine.{mayEnter}
 use Rattle.engine.proofs.Joins.{Joining, joins-start, joins-next, joins-end, all-joined, parent-is, stays-out, some-child, enters}
 use Rattle.engine.proofs.split_first.Statement.{statement}
 use Rattle.engine.proofs.split_first.Tie as tie
@@ -44,11 +45,11 @@ module _ (s : tie.Start Inv-loop μ-loop) where
   abbrev ws : Words
   ws = s .args .b .now
 
-  abbrev tables : Tables ws (s .args .z) (s .args .nx .now) (s .args .q .now) (s .args .best .now)
-  tables = s .pre .0 .tables
+  abbrev known : Checked ws (s .args .z)
+  known = s .pre .0 .indexed .checked
 
   few : s .args .z .s ≤ 64
-  few = omega (arith, tables .sizes .s-is, accepted ws (tables .ok) .sizes .s-high)
+  few = omega (arith, known .sizes .s-is, accepted ws (known .ok) .sizes .s-high)
 
 first-of-requires : tie.Need-first-of-requires Inv-loop μ-loop
 first-of-requires c κs = c .before .before .before .before .before .before .pre .1 .formed .slots
@@ -88,21 +89,21 @@ sub-pool c = s c .pre .1 .some
 reach-weights-requires : tie.Need-reach-weights-requires Inv-loop μ-loop
 reach-weights-requires c κs =
     let g = s c in
-    (tables g .ok, tables g .sizes, g .pre .0 .index, plan-model (ws g) (tables g .ok) (en c) (right c))
+    (g .pre .0 .indexed, plan-model (ws g) (known g .ok) (en c) (right c))
 
 reached-before-requires : tie.Need-reached-before-requires Inv-loop μ-loop
 reached-before-requires c κs =
     let v = c .before in
     let g = s v in
-    let r = tables g in
+    let r = known g in
     let state = right v .split-state in
-    (r .ok, r .next, omega (arith, state), own-walk (ws g) (r .ok) (en v) (right v), usable (ws g) (r .ok) (en v) (right v) (en v .split) state)
+    (r .ok, g .pre .0 .next, omega (arith, state), own-walk (ws g) (r .ok) (en v) (right v), usable (ws g) (r .ok) (en v) (right v) (en v .split) state)
 
 loop-holds : tie.Need-loop-holds Inv-loop μ-loop
 loop-holds c =
     let v = c .before .before in
     let g = s v in (
-      joins-start (ws g) (en v) (left v) (g .args .z .s) (popped v .formed) (omega (arith, right v .split-state, tables g .sizes .s-is)),
+      joins-start (ws g) (en v) (left v) (g .args .z .s) (popped v .formed) (omega (arith, right v .split-state, known g .sizes .s-is)),
       c .reached-before .ensures,
     )
 
@@ -121,7 +122,7 @@ module _ (t : tie.In-loop Inv-loop μ-loop) where
   pool = t .before .loop .pool
 
   state : p < stateCount (ws st)
-  state = omega (arith, t .loop-test .taken, tables st .sizes .s-is)
+  state = omega (arith, t .loop-test .taken, known st .sizes .s-is)
 
   formed : Formed pool
   formed = t .before .loop .inv .0 .formed
@@ -132,9 +133,8 @@ module _ (t : tie.In-loop Inv-loop μ-loop) where
 child-at-requires : tie.Need-child-at-requires Inv-loop μ-loop
 child-at-requires c κs =
     let t = c .before in
-    let h = tables (st t) in (
-      h .ok,
-      h .sizes,
+    let h = st t .pre .0 in (
+      h .indexed .checked,
       h .rows,
       record { right = right (v t); weights = t .before .before .before .reach-weights .ensures },
       t .before .loop .inv .0 .from,
@@ -144,8 +144,8 @@ child-at-requires c κs =
 pass-state-requires : tie.Need-pass-state-requires Inv-loop μ-loop
 pass-state-requires c κs =
     let t = c .before .before .before in
-    let h = tables (st t) in
-    (h .ok, h .next, state t, action-or-none (ws (st t)) (h .ok) (en (v t)) (right (v t)) (p t) (state t), t .before .loop .inv .1)
+    let h = known (st t) in
+    (h .ok, st t .pre .0 .next, state t, action-or-none (ws (st t)) (h .ok) (en (v t)) (right (v t)) (p t) (state t), t .before .loop .inv .1)
 
 add-p : tie.Need-add-p Inv-loop μ-loop
 add-p c =
@@ -200,12 +200,11 @@ module _ (c : tie.Then1 Inv-loop μ-loop) where
 row-of-requires : tie.Need-row-of-requires Inv-loop μ-loop
 row-of-requires c κs =
     let t = turn (m c) in
-    let h = tables (st t) in (
-      h .ok,
-      h .sizes,
+    let h = st t .pre .0 in (
+      h .indexed .checked,
       h .next,
       h .firsts,
-      usable (ws (st t)) (h .ok) (en (v t)) (right (v t)) (p t) (state t),
+      usable (ws (st t)) (known (st t) .ok) (en (v t)) (right (v t)) (p t) (state t),
       state t,
       option c,
       t .before .loop .inv .1 .walked,
@@ -242,7 +241,7 @@ module _ (a : tie.After-place Inv-loop μ-loop) where
   entered : {q : Pool} → Inserts q → Next (m (r .before)) q
   entered i =
       next (m (r .before))
-      (enters (ws (st t)) (st t .args .plan .now) (p t) (d (m (r .before))) (pool t) (some (r .before)) (tables (st t) .sizes .s-is) refl (r .row-of .ensures) i)
+      (enters (ws (st t)) (st t .args .plan .now) (p t) (d (m (r .before))) (pool t) (some (r .before)) (known (st t) .sizes .s-is) refl (r .row-of .ensures) i)
 
 spare-place-requires : tie.Need-spare-place-requires Inv-loop μ-loop
 spare-place-requires c κs =
@@ -374,7 +373,7 @@ returns c =
     let v = a .before .before .before in
     let g = s v in
     all-joined (ws g) (popped v) refl (first-is v)
-    (joins-end (ws g) (en v) (left v) (a .loop .inv .0) (c .loop-test .left) (tables g .sizes .s-is))
+    (joins-end (ws g) (en v) (left v) (a .loop .inv .0) (c .loop-test .left) (known g .sizes .s-is))
 
 pub split-first-spec : {M : Type 1} → statement M
 split-first-spec =
