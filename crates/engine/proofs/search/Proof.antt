@@ -195,10 +195,10 @@ module _ (o : tie.After-slot-at Inv-loop μ-loop) where
         ∙ ap (λ (m : ℕ). written (a e .loop .plans) (j e * m) (S (g e)) (first e .plan)) (all (g e))
 
 mul-cost : tie.Need-mul-cost Inv-loop μ-loop
-mul-cost c = omega (arith, low c)
+mul-cost c = omega (arith, low c, j-low (e c))
 
 element-copy-out-cost : tie.Need-element-copy-out-cost Inv-loop μ-loop
-element-copy-out-cost c = low c
+element-copy-out-cost c = omega (arith, low c, j-low (e c))
 
 mul-cost-2 : tie.Need-mul-cost-2 Inv-loop μ-loop
 mul-cost-2 c = search needs
@@ -225,7 +225,7 @@ read-row-requires : tie.Need-read-row-requires Inv-loop μ-loop
 read-row-requires c κs =
     let o = c .before .before .before .before in
     let i = e o in
-    (formed i .plans-long, low o, few (g i), part-long (a i .loop .plans) (at i) (n (g i)) (S (g i)) (all (g i)) (plans-room i))
+    (formed i .plans-long, omega (arith, low o, j-low i), few (g i), part-long (a i .loop .plans) (at i) (n (g i)) (S (g i)) (all (g i)) (plans-room i))
 
 -- the policy is listed
 module _ (r : tie.After-read-row Inv-loop μ-loop) where

@@ -84,7 +84,7 @@ module _ (v : tie.After-move-back Inv-loop μ-loop) where
   right = subst (Right (ws s)) (sym first-is) (s .pre .1 .right)
 
 sub-pool : tie.Need-sub-pool Inv-loop μ-loop
-sub-pool c = s c .pre .1 .some
+sub-pool c = omega (arith, s c .pre .1 .some)
 
 reach-weights-requires : tie.Need-reach-weights-requires Inv-loop μ-loop
 reach-weights-requires c κs =
@@ -303,8 +303,9 @@ write-row-requires c κs =
 
 cast-pool : tie.Need-cast-pool Inv-loop μ-loop
 cast-pool c =
-    let g = a (chosen-place (c .before .before .before)) in
-    omega (arith, t g .loop-test .taken, few (st (t g)))
+    let v = chosen-place (c .before .before .before) in
+    let g = a v in
+    omega (arith, t g .loop-test .taken, few (st (t g)), n-low v, before-n v)
 
 element-write-pool : tie.Need-element-write-pool Inv-loop μ-loop
 element-write-pool c = slot-small (c .before .before .before)
