@@ -3,7 +3,7 @@
 // its set is among the first K.
 //
 // The pool goes from step to step by value. What is read of the book is lent: x (where each state stands), nx (the next states of each action), q (the
-// cost of each action) and best (the first best action of each state).
+// cost of each action) and best (the first and the second best action of each state).
 use book::Sizes;
 use child::Child;
 use child::Parent;
@@ -35,7 +35,7 @@ fn row_of(
     b: &[i32],
     z: Sizes,
     nx: &[u64; 512],
-    best: &[usize; 64],
+    best: &[usize; 128],
     plan: &[u8],
     p: usize,
     c: usize,
@@ -87,7 +87,7 @@ fn split_first(
     x: &[usize; 192],
     nx: &[u64; 512],
     q: &[i64; 512],
-    best: &[usize; 64],
+    best: &[usize; 128],
     plan: &[u8],
     mut pool: Pool,
 ) -> Pool
@@ -104,7 +104,7 @@ fn split_first(
     let mut p = e.split;
     let mut reach = build::reached_before(b, nx, plan, p);
     while p < s {
-        let d = child::child_at(b, z, q, &w, plan, e, p);
+        let d = child::child_at(b, z, q, best, &w, plan, e, p);
         let cost = d.cost;
         let state = p;
         let from = reach;
@@ -136,7 +136,7 @@ fn search(
     x: &[usize; 192],
     nx: &[u64; 512],
     q: &[i64; 512],
-    best: &[usize; 64],
+    best: &[usize; 128],
     mut pool: Pool,
     costs: &mut [i64],
     plans: &mut [u8],
@@ -166,7 +166,14 @@ fn search(
 }
 
 // The pool of at most k with the first candidate: all policies, of which the first takes the first best actions and costs `cost`.
-fn first_pool(b: &[i32], z: Sizes, nx: &[u64; 512], best: &[usize; 64], cost: i64, k: usize) -> Pool
+fn first_pool(
+    b: &[i32],
+    z: Sizes,
+    nx: &[u64; 512],
+    best: &[usize; 128],
+    cost: i64,
+    k: usize,
+) -> Pool
     requires { ⌜ Checked (now b) z × NextsOf (now b) (now nx) × BestOf (now b) (now best) × (cost ≡ firstCandidate (now b) .cost) × (1 ≤ k) × (k ≤ 64) ⌝ }
     ensures { λ r. ⌜ Formed r × (r .most ≡ k) × (entries (stateCount (now (b .entry))) r ≡ firstCandidate (now (b .entry)) ∷ []) ⌝ }
 {

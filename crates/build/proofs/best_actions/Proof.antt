@@ -1,16 +1,17 @@
--- The first best actions of the states below p are found.
+-- The first and second best actions of the states below p are found.
 -- Assumes nothing.
 use mathlib.Core.Path.{_≡_, ap, _∙_, subst}
-use Prim.Native.Nat.{_-_, _≤_}
+use Prim.Native.Nat.{_-_, _<_, _≤_}
 use native.Mathlib.Omega.{arith}
 use Rattle.model.specs.Lists.{upFrom}
-use Rattle.model.specs.Model.{stateCount}
-use Rattle.model.specs.Recursion.{bestOf}
-use Rattle.sets.specs.Sets.{free}
+use Rattle.model.specs.Model.{Words, scale, stateCount, togo, action, options}
+use Rattle.model.specs.Recursion.{bestOf, through}
+use Rattle.sets.specs.Sets.{with, free}
+use Rattle.accepted.specs.Options.{option-small, state-alive}
 use Rattle.accepted.specs.Facts.{accepted}
 use Rattle.table.specs.Table.{rowOf}
-use Rattle.build.specs.Best.{BestTo}
-use Rattle.build.proofs.Best.{row-best, best-none, best-more}
+use Rattle.build.specs.Best.{bestAt, BestTo}
+use Rattle.build.proofs.Best.{row-best, row-first, best-option, best-none, best-more}
 use borrow.Author.Needs.{needs}
 use Rattle.build.proofs.best_actions.Statement.{statement}
 use Rattle.build.proofs.best_actions.Tie as tie
@@ -33,17 +34,66 @@ loop-holds c =
 count-requires : tie.Need-count-requires Inv-loop μ-loop
 count-requires c κs = search needs
 
-best-action-requires : tie.Need-best-action-requires Inv-loop μ-loop
-best-action-requires c κs =
+-- what is known once the first best action of state p is found
+module _ (c : tie.After-best-action Inv-loop μ-loop) where
+  abbrev l : tie.At-loop Inv-loop μ-loop
+  l = c .before .before .before
+
+  abbrev s : tie.Start Inv-loop μ-loop
+  s = l .before .before
+
+  abbrev ws : Words
+  ws = s .args .b .now
+
+  state : l .loop .p < stateCount ws
+  state = omega arith
+
+  first : c .best-action .result ≡ bestAt ws (l .loop .p)
+  first =
+      c .best-action .ensures ∙ ap (λ n. bestOf (rowOf (s .args .q .now) (l .loop .p)) (free 0 (upFrom 0 n))) (c .before .count .ensures)
+      ∙ row-first ws (l .loop .p) (s .args .q .now) (s .pre .1) state
+
+  small : c .best-action .result < 8
+  small =
+      omega (
+        arith,
+        first,
+        option-small ws (s .pre .0 .ok) (l .loop .p) state
+            (best-option ws (l .loop .p) (state-alive ws (s .pre .0 .ok) (l .loop .p) state)),
+      )
+
+few : (c : tie.After-count Inv-loop μ-loop) → (c .before .before .loop .p < 64) × (c .count .result ≤ 8)
+few c =
     let l = c .before .before in
     let s = l .before .before in
     (omega arith, omega (arith, c .count .ensures, accepted (s .args .b .now) (s .pre .0 .ok) .counts-high (l .loop .p) (omega arith)))
+
+best-action-requires : tie.Need-best-action-requires Inv-loop μ-loop
+best-action-requires c κs = few c
+
+cast-with8 : tie.Need-cast-with8 Inv-loop μ-loop
+cast-with8 c = omega (arith, small c)
+
+with8-requires : tie.Need-with8-requires Inv-loop μ-loop
+with8-requires c κs = small c
 
 mul-best : tie.Need-mul-best Inv-loop μ-loop
 mul-best c = omega arith
 
 array-write-best : tie.Need-array-write-best Inv-loop μ-loop
 array-write-best c = omega arith
+
+best-action-requires-2 : tie.Need-best-action-requires-2 Inv-loop μ-loop
+best-action-requires-2 c κs = few (c .before .before)
+
+add-best : tie.Need-add-best Inv-loop μ-loop
+add-best c = omega arith
+
+mul-best-2 : tie.Need-mul-best-2 Inv-loop μ-loop
+mul-best-2 c = omega arith
+
+array-write-best-2 : tie.Need-array-write-best-2 Inv-loop μ-loop
+array-write-best-2 c = omega arith
 
 add-p : tie.Need-add-p Inv-loop μ-loop
 add-p c = omega arith
@@ -53,16 +103,16 @@ loop-less c = omega arith
 
 loop-again : tie.Need-loop-again Inv-loop μ-loop
 loop-again c =
-    let l = c .before .before .before in
-    let s = l .before .before in
-    let ws = s .args .b .now in
-    let q = s .args .q .now in
-    let p = l .loop .p in (
-      l .loop .inv .0,
+    let a = c .before .before in
+    let p = l a .loop .p in
+    let q = s a .args .q .now in (
+      l a .loop .inv .0,
       omega arith,
-      best-more ws p (c .best-action .result) (l .loop .best) (omega arith) (l .loop .inv .2)
-          (c .best-action .ensures ∙ ap (λ n. bestOf (rowOf q p) (free 0 (upFrom 0 n))) (c .before .count .ensures)
-          ∙ row-best ws p q (s .pre .1) (omega arith)),
+      best-more (ws a) p (a .best-action .result) (c .best-action2 .result) (l a .loop .best) (omega arith) (l a .loop .inv .2) (first a)
+          (c .best-action2 .ensures ∙ ap (λ n. bestOf (rowOf q p) (free (c .before .with8 .result) (upFrom 0 n))) (a .before .count .ensures)
+          ∙ row-best (ws a) p q (s a .pre .1) (state a) (c .before .with8 .result)
+          ∙ ap (λ m. bestOf (through (scale (ws a)) (action (ws a)) (options (ws a)) (togo (ws a) p) p) (free m (options (ws a) p)))
+          (c .before .with8 .ensures ∙ ap (with 0) (first a))),
     )
 
 returns : tie.Need-returns Inv-loop μ-loop
@@ -82,8 +132,14 @@ best-actions-spec =
     loop-holds
     count-requires
     best-action-requires
+    cast-with8
+    with8-requires
     mul-best
     array-write-best
+    best-action-requires-2
+    add-best
+    mul-best-2
+    array-write-best-2
     add-p
     loop-less
     loop-again
