@@ -18,7 +18,7 @@ use Rattle.accepted.specs.Options.{Option, Alive, options-are}
 use Rattle.sets.specs.Sets.{free, free-all, free-in}
 use Rattle.table.specs.Table.{rowOf, TableOf}
 use Rattle.table.proofs.Better.{best-same}
-use Rattle.build.specs.Best.{bestAt, secondAt, RowsOf, BestTo}
+use Rattle.build.specs.Best.{bestAt, secondAt, RowsOf, BestTo, SecondTo}
 
 -- the table has the rows
 pub table-rows : (ws : Words) (q v : List ℤ) → TableOf ws q v → RowsOf ws q
@@ -43,33 +43,40 @@ module _ (ws : Words) (p : ℕ) where
   pub best-option : Alive ws p → Option ws p (bestAt ws p)
   best-option a = best-in cost (options ws p) (a .some .0) (a .some .1)
 
-pub best-none : (ws : Words) (xs : List ℕ) → length xs ≡ 128 → BestTo ws 0 xs
-best-none ws xs l = record { long = l; best-is = λ p h. absurd (omega arith); second-is = λ p h. absurd (omega arith) }
+-- what is found of the states below n, where a list of k policies is asked for
+abbrev pub Found : Words → ℕ → ℕ → List ℕ → Type 0
+Found ws k n xs = BestTo ws n xs × (1 < k → SecondTo ws n xs)
+
+pub found-none : (ws : Words) (k : ℕ) (xs : List ℕ) → length xs ≡ 128 → Found ws k 0 xs
+found-none ws k xs l = (record { long = l; best-is = λ p h. absurd (omega arith) }, λ j p h. absurd (omega arith))
 
 -- one state more
-module _ (ws : Words) (n a d : ℕ) (xs : List ℕ) (h : n < 64) (t : BestTo ws n xs) (a-is : a ≡ bestAt ws n) (d-is : d ≡ secondAt ws n) where
+module _ (ws : Words) (k n a : ℕ) (xs : List ℕ) (h : n < 64) (t : Found ws k n xs) (a-is : a ≡ bestAt ws n) where
   le : (p : ℕ) → p < n + 1 → p ≤ n
-  le p k = omega arith
+  le p l = omega arith
 
-  best : (p : ℕ) → (p ≡ n) ⊎ (p < n) → getD (set (set xs n a) (64 + n) d) p 0 ≡ bestAt ws p
-  best p (inl k) =
-      getD-set-other (set xs n a) (64 + n) p d 0 (λ i. absurd (omega arith)) ∙ ap (λ (i : ℕ). getD (set xs n a) i 0) k
-      ∙ getD-set-same xs n a 0 (omega (arith, t .long)) ∙ a-is ∙ ap (bestAt ws) (sym k)
-  best p (inr k) =
-      getD-set-other (set xs n a) (64 + n) p d 0 (λ i. absurd (omega arith)) ∙ getD-set-other xs n p a 0 (λ i. absurd (omega arith)) ∙ t .best-is p k
+  pub first-more : BestTo ws (n + 1) (set xs n a)
+  first-more = record { long = length-set xs n a ∙ t .0 .long; best-is = λ p l. go p (eq-or-lt-of-le (le p l)) }
+    where
+      go : (p : ℕ) → (p ≡ n) ⊎ (p < n) → getD (set xs n a) p 0 ≡ bestAt ws p
+      go p (inl l) =
+          ap (λ (i : ℕ). getD (set xs n a) i 0) l ∙ getD-set-same xs n a 0 (omega (arith, t .0 .long)) ∙ a-is ∙ ap (bestAt ws) (sym l)
+      go p (inr l) = getD-set-other xs n p a 0 (λ i. absurd (omega arith)) ∙ t .0 .best-is p l
 
-  second : (p : ℕ) → (p ≡ n) ⊎ (p < n) → getD (set (set xs n a) (64 + n) d) (64 + p) 0 ≡ secondAt ws p
-  second p (inl k) =
-      ap (λ (i : ℕ). getD (set (set xs n a) (64 + n) d) (64 + i) 0) k
-      ∙ getD-set-same (set xs n a) (64 + n) d 0 (omega (arith, length-set xs n a, t .long)) ∙ d-is ∙ ap (secondAt ws) (sym k)
-  second p (inr k) =
-      getD-set-other (set xs n a) (64 + n) (64 + p) d 0 (λ i. absurd (omega arith)) ∙ getD-set-other xs n (64 + p) a 0 (λ i. absurd (omega arith))
-      ∙ t .second-is p k
+  pub found-one : (1 < k → ⊥) → Found ws k (n + 1) (set xs n a)
+  found-one j = (first-more, λ i. absurd (j i))
 
-  pub best-more : BestTo ws (n + 1) (set (set xs n a) (64 + n) d)
-  best-more =
-      record {
-        long = length-set (set xs n a) (64 + n) d ∙ length-set xs n a ∙ t .long;
-        best-is = λ p k. best p (eq-or-lt-of-le (le p k));
-        second-is = λ p k. second p (eq-or-lt-of-le (le p k));
-      }
+  pub found-two : (d : ℕ) → 1 < k → d ≡ secondAt ws n → Found ws k (n + 1) (set (set xs n a) (64 + n) d)
+  found-two d j d-is =
+      (record { long = length-set (set xs n a) (64 + n) d ∙ first-more .long; best-is = first }, λ j p l. go p (eq-or-lt-of-le (le p l)))
+    where
+      first : (p : ℕ) → p < n + 1 → getD (set (set xs n a) (64 + n) d) p 0 ≡ bestAt ws p
+      first p l = getD-set-other (set xs n a) (64 + n) p d 0 (λ i. absurd (omega arith)) ∙ first-more .best-is p l
+
+      go : (p : ℕ) → (p ≡ n) ⊎ (p < n) → getD (set (set xs n a) (64 + n) d) (64 + p) 0 ≡ secondAt ws p
+      go p (inl l) =
+          ap (λ (i : ℕ). getD (set (set xs n a) (64 + n) d) (64 + i) 0) l
+          ∙ getD-set-same (set xs n a) (64 + n) d 0 (omega (arith, first-more .long)) ∙ d-is ∙ ap (secondAt ws) (sym l)
+      go p (inr l) =
+          getD-set-other (set xs n a) (64 + n) (64 + p) d 0 (λ i. absurd (omega arith)) ∙ getD-set-other xs n (64 + p) a 0 (λ i. absurd (omega arith))
+          ∙ t .1 j p l

@@ -25,11 +25,17 @@ pub record RowsOf (ws : Words) (q : List ℤ) : Type 0 where
   pub through-is : (p c : ℕ) → p < stateCount ws → Option ws p c
       → rowOf q p c ≡ through (scale ws) (action ws) (options ws) (togo ws p) p c
 
--- xs has the first best actions of the states below n, and 64 places further on their second best
+-- xs has the first best actions of the states below n
 pub record BestTo (ws : Words) (n : ℕ) (xs : List ℕ) : Type 0 where
   pub long : length xs ≡ 128
   pub best-is : (p : ℕ) → p < n → getD xs p 0 ≡ bestAt ws p
-  pub second-is : (p : ℕ) → p < n → getD xs (64 + p) 0 ≡ secondAt ws p
+
+-- and, 64 places further on, their second best
+abbrev pub SecondTo : Words → ℕ → List ℕ → Type 0
+SecondTo ws n xs = (p : ℕ) → p < n → getD xs (64 + p) 0 ≡ secondAt ws p
 
 abbrev pub BestOf : Words → List ℕ → Type 0
 BestOf ws xs = BestTo ws (stateCount ws) xs
+
+abbrev pub SecondOf : Words → List ℕ → Type 0
+SecondOf ws xs = SecondTo ws (stateCount ws) xs

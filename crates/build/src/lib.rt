@@ -10,7 +10,7 @@ ghost use Rattle.model.specs.Path.{byteAt};
 ghost use Rattle.accepted.specs.Options.{Option};
 ghost use Rattle.index.specs.Index.{Checked};
 ghost use Rattle.nexts.specs.Nexts.{NextsOf};
-ghost use Rattle.build.specs.Best.{RowsOf, BestOf};
+ghost use Rattle.build.specs.Best.{RowsOf, BestOf, SecondOf};
 ghost use Rattle.build.specs.Walk.{walkBy, splitBy, chosen, ActionOrNone, Usable, Stepped, Walked, Own, Passed};
 
 fn zeros() -> [usize; 128]
@@ -19,10 +19,11 @@ fn zeros() -> [usize; 128]
     [0; 128]
 }
 
-// By the table q of the costs of the actions, for each state p: at p its first best action, at 64 + p the first best of its others, 255 where there is none.
-pub fn best_actions(b: &[i32], z: Sizes, q: &[i64; 512]) -> [usize; 128]
+// By the table q of the costs of the actions, for each state p: at p its first best action, and at 64 + p the first best of its others, 255 where there
+// is none. A list of one policy needs no second best actions: they are left out where k is 1.
+pub fn best_actions(b: &[i32], z: Sizes, q: &[i64; 512], k: usize) -> [usize; 128]
     requires { ⌜ Checked (now b) z × RowsOf (now b) (now q) ⌝ }
-    ensures { λ r. ⌜ BestOf (now (b .entry)) r ⌝ }
+    ensures { λ r. ⌜ BestOf (now (b .entry)) r × (1 < k → SecondOf (now (b .entry)) r) ⌝ }
 {
     let s = z.s;
     let mut best = zeros();
@@ -30,9 +31,11 @@ pub fn best_actions(b: &[i32], z: Sizes, q: &[i64; 512]) -> [usize; 128]
     while p < s {
         let n = index::count(b, z, p);
         let c = table::best_action(q, p, n, 0);
-        let other = sets::with8(0, c as u8);
         best[p] = c;
-        best[64 + p] = table::best_action(q, p, n, other);
+        if 1 < k {
+            let own = sets::with8(0, c as u8);
+            best[64 + p] = table::best_action(q, p, n, own);
+        }
         p = p + 1;
     }
     best

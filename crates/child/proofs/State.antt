@@ -13,7 +13,7 @@ use lib.IntN.{ℤ}
 use lib.ListN.{getD}
 use Rattle.model.specs.Lists.{upFrom}
 use Rattle.model.specs.Questions.{bookNumber}
-use Rattle.build.specs.Best.{RowsOf, BestOf, secondAt}
+use Rattle.build.specs.Best.{RowsOf, SecondOf, secondAt}
 use Rattle.build.proofs.Best.{row-best}
 use Rattle.model.specs.Model.{Words, scale, stateCount, togo, actionCount, action, options}
 use Rattle.model.specs.Path.{byteAt}
@@ -48,7 +48,7 @@ module _ (ws : Words) (ok : bookNumber ws ≡ 0) (q : List ℤ) (rows : RowsOf w
     pub small : f < 8
     small = omega (arith, byte, own-small ws ok e ri p state from other′)
 
-    module _ (best : List ℕ) (bo : BestOf ws best) (m r : ℕ) (mask-is : m ≡ with (cond (eqb p (e .split)) (e .mask) 0) f)
+    module _ (best : List ℕ) (so : SecondOf ws best) (m r : ℕ) (mask-is : m ≡ with (cond (eqb p (e .split)) (e .mask) 0) f)
         (r-is : r ≡ nextBy ws q best (e .split) p m) where
       abbrev cost : ℕ → ℤ
       cost = through (scale ws) (action ws) (options ws) (togo ws p) p
@@ -72,7 +72,7 @@ module _ (ws : Words) (ok : bookNumber ws ≡ 0) (q : List ℤ) (rows : RowsOf w
           go (inr l) =
               ap (λ (t : Bool). cond t (bestOf (rowOf q p) (free m (upFrom 0 (actionCount ws p)))) (getD best (64 + p) 0))
               (ne-eqb p (e .split) (λ h. omega arith))
-              ∙ bo .second-is p state ∙ second l
+              ∙ so p state ∙ second l
 
       pub none : r ≡ 255 → es ≡ admitted ws k e p es
       none h = sym (ap (λ (cs : List Entry). admit earlierEntry itself k cs es) (none-left ws ok e ri p state from cost (sym next ∙ h)))

@@ -11,7 +11,7 @@ ghost use Rattle.model.specs.Model.{stateCount};
 ghost use Rattle.index.specs.Index.{Checked};
 ghost use Rattle.sets.specs.Sets.{with};
 ghost use Rattle.table.specs.Table.{rowOf};
-ghost use Rattle.build.specs.Best.{RowsOf, BestOf};
+ghost use Rattle.build.specs.Best.{RowsOf, SecondOf};
 ghost use Rattle.child.specs.Move.{Movable};
 ghost use Rattle.child.specs.Children.{Parenting, entryOf, nextBy, ChildIs};
 
@@ -98,7 +98,7 @@ pub fn child_at(
     e: Parent,
     p: usize,
 ) -> Child
-    requires { ⌜ Checked (now b) z × RowsOf (now b) (now q) × BestOf (now b) (now best) × Parenting (now b) e (now plan) (now w) × (e .split ≤ p) × (p < stateCount (now b)) ⌝ }
+    requires { ⌜ Checked (now b) z × RowsOf (now b) (now q) × SecondOf (now b) (now best) × Parenting (now b) e (now plan) (now w) × (e .split ≤ p) × (p < stateCount (now b)) ⌝ }
     ensures { λ r. ⌜ ChildIs (now (b .entry)) (entryOf e (now (plan .entry))) p r ⌝ }
 {
     let f = plan[p] as usize;

@@ -17,7 +17,7 @@ ghost use Rattle.model.specs.Questions.{bookNumber};
 ghost use Rattle.accepted.specs.Options.{Option};
 ghost use Rattle.index.specs.Index.{Checked};
 ghost use Rattle.nexts.specs.Nexts.{NextsOf};
-ghost use Rattle.build.specs.Best.{BestOf};
+ghost use Rattle.build.specs.Best.{BestOf, SecondOf};
 ghost use Rattle.build.specs.Walk.{walkBy, chosen, Usable, Walked};
 ghost use Rattle.pool.specs.Entries.{entries, Slots, Formed, Holding};
 ghost use Rattle.stored.specs.Runs.{runEntries};
@@ -91,7 +91,7 @@ fn split_first(
     plan: &[u8],
     mut pool: Pool,
 ) -> Pool
-    requires { ⌜ Ready (now b) z (now x) (now nx) (now q) (now best) × Splittable (now b) (now plan) pool ⌝ }
+    requires { ⌜ Ready (now b) z (now x) (now nx) (now q) (now best) × Splittable (now b) (now plan) pool × SecondOf (now b) (now best) ⌝ }
     ensures { λ r. ⌜ Holding (stateCount (now (b .entry))) (splitPool (now (b .entry)) (pool .most) (entries (stateCount (now (b .entry))) pool)) pool r ⌝ }
 {
     let s = z.s;
@@ -141,7 +141,7 @@ fn search(
     costs: &mut [i64],
     plans: &mut [u8],
 ) -> usize
-    requires { ⌜ Ready (now b) z (now x) (now nx) (now q) (now best) × Searchable (now b) pool (now costs) (now plans) ⌝ }
+    requires { ⌜ Ready (now b) z (now x) (now nx) (now q) (now best) × Searchable (now b) pool (now costs) (now plans) × (1 < pool .most → SecondOf (now b) (now best)) ⌝ }
     ensures { λ r. ⌜ Found (runEntries (now (b .entry)) (pool .most) (pool .most) (entries (stateCount (now (b .entry))) pool)) r (now (costs .entry)) (now (costs .exit)) (now (plans .entry)) (now (plans .exit)) ⌝ }
 {
     let k = pool.most;
@@ -192,7 +192,7 @@ pub fn list(b: &[i32], k: usize, costs: &mut [i64], plans: &mut [u8]) -> usize
     let x = index::index(b, z);
     let nx = nexts::next_sets(b, z, &x);
     let t = table::make_table(b, z, &x);
-    let best = build::best_actions(b, z, &t.q);
+    let best = build::best_actions(b, z, &t.q, k);
     let start = first_pool(b, z, &nx, &best, t.v[0], k);
     search(b, z, &x, &nx, &t.q, &best, start, costs, plans)
 }

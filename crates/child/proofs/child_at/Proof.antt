@@ -63,7 +63,7 @@ returns-2 c =
     let s = t .before .before .before .before .before .before in
     none-is (ws s) (en s) (s .args .p) _ (c .no-child2 .ensures)
     (λ k es. none (ws s) (s .pre .0 .ok) (s .args .q .now) (s .pre .1) (en s) (s .pre .3 .right) (s .args .p) (s .pre .4) (s .pre .5) k es
-    (t .before .before .before .if1 .left) _ (s .pre .2) _ _ (t .before .before .mask-at .ensures) (t .before .next-action .ensures) (t .if2 .taken))
+    (t .before .before .before .if1 .left) (s .args .best .now) (s .pre .2) _ _ (t .before .before .mask-at .ensures) (t .before .next-action .ensures) (t .if2 .taken))
 
 -- where an action is left
 module _ (c : tie.Else2) where
@@ -73,7 +73,7 @@ module _ (c : tie.Else2) where
   child : ChildAt (ws s) (en s) (s .args .p) (c .before .next-action .result) (c .before .before .mask-at .result)
   child =
       child-at (ws s) (s .pre .0 .ok) (s .args .q .now) (s .pre .1) (en s) (s .pre .3 .right) (s .args .p) (s .pre .4) (s .pre .5) 0 []
-      (c .before .before .before .if1 .left) _ (s .pre .2) _ _ (c .before .before .mask-at .ensures) (c .before .next-action .ensures) (c .if2 .left)
+      (c .before .before .before .if1 .left) (s .args .best .now) (s .pre .2) _ _ (c .before .before .mask-at .ensures) (c .before .next-action .ensures) (c .if2 .left)
 
   known : Facts (ws s) (s .args .q .now) (en s) (s .args .w .now) (s .args .p) (c .before .next-action .result)
       (getD (s .args .plan .now) (s .args .p) 0)
@@ -84,7 +84,7 @@ module _ (c : tie.Else2) where
   joins : (k : ℕ) (es : List Entry) → joined k (childEntry (ws s) (en s) (s .args .p)) es ≡ admitted (ws s) k (en s) (s .args .p) es
   joins k es =
       one (ws s) (s .pre .0 .ok) (s .args .q .now) (s .pre .1) (en s) (s .pre .3 .right) (s .args .p) (s .pre .4) (s .pre .5) k es
-      (c .before .before .before .if1 .left) _ (s .pre .2) _ _ (c .before .before .mask-at .ensures) (c .before .next-action .ensures) (c .if2 .left)
+      (c .before .before .before .if1 .left) (s .args .best .now) (s .pre .2) _ _ (c .before .before .mask-at .ensures) (c .before .next-action .ensures) (c .if2 .left)
 
   -- the cost that is passed on is the child's
   money : (r : ℤ)
