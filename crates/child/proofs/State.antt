@@ -67,11 +67,11 @@ module _ (ws : Words) (ok : bookNumber ws ≡ 0) (q : List ℤ) (rows : RowsOf w
         where
           go : (e .split ≡ p) ⊎ (e .split < p) → nextBy ws q best (e .split) p m ≡ bestOf cost (left ws p (maskAt e p))
           go (inl h) =
-              ap (λ (t : Bool). cond t (bestOf (rowOf q p) (free m (upFrom 0 (actionCount ws p)))) (getD best (64 + p) 0)) (eq-eqb p (e .split) (sym h))
+              ap (λ (t : Bool). cond t (bestOf (rowOf q p) (free m (upFrom 0 (actionCount ws p)))) (getD best (64 + p) 0)) (eq-eqb (e .split) p h)
               ∙ row-best ws p q rows state m ∙ ap (λ (m : ℕ). bestOf cost (left ws p m)) mask-at
           go (inr l) =
               ap (λ (t : Bool). cond t (bestOf (rowOf q p) (free m (upFrom 0 (actionCount ws p)))) (getD best (64 + p) 0))
-              (ne-eqb p (e .split) (λ h. omega arith))
+              (ne-eqb (e .split) p (λ h. omega arith))
               ∙ so p state ∙ second l
 
       pub none : r ≡ 255 → es ≡ admitted ws k e p es

@@ -37,7 +37,7 @@ pub record Parenting (ws : Words) (e : Parent) (bs : Policy) (w : List ℕ) : Ty
 
 -- the next action at state p, by the table of costs at the split state and by that of best actions after it
 abbrev pub nextBy : Words → List ℤ → List ℕ → ℕ → ℕ → ℕ → ℕ
-nextBy ws q best split p mask = cond (eqb p split) (bestOf (rowOf q p) (free mask (upFrom 0 (actionCount ws p)))) (getD best (64 + p) 0)
+nextBy ws q best split p mask = cond (eqb split p) (bestOf (rowOf q p) (free mask (upFrom 0 (actionCount ws p)))) (getD best (64 + p) 0)
 
 -- e is split at state p, where c is the next best action after those barred, `mask` among them its own
 pub record ChildAt (ws : Words) (e : Entry) (p c mask : ℕ) : Type 0 where

@@ -80,7 +80,7 @@ fn next_action(
     requires { ⌜ Checked (now b) z × (p < stateCount (now b)) ⌝ }
     ensures { λ r. ⌜ r ≡ nextBy (now (b .entry)) (now (q .entry)) (now (best .entry)) split p mask ⌝ }
 {
-    if p == split {
+    if split == p {
         let n = index::count(b, z, p);
         return table::best_action(q, p, n, mask);
     }
