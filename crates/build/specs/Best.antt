@@ -1,18 +1,23 @@
--- The first best action of each state, and the table that it is read from.
+-- The first and the second best action of each state, and the table that they are read from.
 -- Assumes nothing.
 use mathlib.Core.Path.{_≡_}
 use mathlib.Core.List.{List}
-use Prim.Native.Nat.{ℕ, _<_}
+use Prim.Native.Nat.{ℕ, _+_, _<_}
 use lib.IntN.{ℤ}
 use lib.ListN.{length, getD}
 use Rattle.model.specs.Model.{Words, scale, stateCount, togo, action, options}
 use Rattle.model.specs.Recursion.{bestOf, through}
 use Rattle.accepted.specs.Options.{Option}
+use Rattle.sets.specs.Sets.{with, free}
 use Rattle.table.specs.Table.{rowOf}
 
 -- the first best action of state p
 abbrev pub bestAt : Words → ℕ → ℕ
 bestAt ws p = bestOf (through (scale ws) (action ws) (options ws) (togo ws p) p) (options ws p)
+
+-- and the first best of its others
+abbrev pub secondAt : Words → ℕ → ℕ
+secondAt ws p = bestOf (through (scale ws) (action ws) (options ws) (togo ws p) p) (free (with 0 (bestAt ws p)) (options ws p))
 
 -- q has the costs of the options of every state
 pub record RowsOf (ws : Words) (q : List ℤ) : Type 0 where
@@ -22,8 +27,15 @@ pub record RowsOf (ws : Words) (q : List ℤ) : Type 0 where
 
 -- xs has the first best actions of the states below n
 pub record BestTo (ws : Words) (n : ℕ) (xs : List ℕ) : Type 0 where
-  pub long : length xs ≡ 64
+  pub long : length xs ≡ 128
   pub best-is : (p : ℕ) → p < n → getD xs p 0 ≡ bestAt ws p
+
+-- and, 64 places further on, their second best
+abbrev pub SecondTo : Words → ℕ → List ℕ → Type 0
+SecondTo ws n xs = (p : ℕ) → p < n → getD xs (64 + p) 0 ≡ secondAt ws p
 
 abbrev pub BestOf : Words → List ℕ → Type 0
 BestOf ws xs = BestTo ws (stateCount ws) xs
+
+abbrev pub SecondOf : Words → List ℕ → Type 0
+SecondOf ws xs = SecondTo ws (stateCount ws) xs

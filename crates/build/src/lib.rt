@@ -10,19 +10,20 @@ ghost use Rattle.model.specs.Path.{byteAt};
 ghost use Rattle.accepted.specs.Options.{Option};
 ghost use Rattle.index.specs.Index.{Checked};
 ghost use Rattle.nexts.specs.Nexts.{NextsOf};
-ghost use Rattle.build.specs.Best.{RowsOf, BestOf};
+ghost use Rattle.build.specs.Best.{RowsOf, BestOf, SecondOf};
 ghost use Rattle.build.specs.Walk.{walkBy, splitBy, chosen, ActionOrNone, Usable, Stepped, Walked, Own, Passed};
 
-fn zeros() -> [usize; 64]
-    ensures { λ r. ⌜ length r ≡ 64 ⌝ }
+fn zeros() -> [usize; 128]
+    ensures { λ r. ⌜ length r ≡ 128 ⌝ }
 {
-    [0; 64]
+    [0; 128]
 }
 
-// The first best action of every state, by the table q of the costs of its actions.
-pub fn best_actions(b: &[i32], z: Sizes, q: &[i64; 512]) -> [usize; 64]
+// By the table q of the costs of the actions, for each state p: at p its first best action, and at 64 + p the first best of its others, 255 where there
+// is none. A list of one policy needs no second best actions: they are left out where k is 1.
+pub fn best_actions(b: &[i32], z: Sizes, q: &[i64; 512], k: usize) -> [usize; 128]
     requires { ⌜ Checked (now b) z × RowsOf (now b) (now q) ⌝ }
-    ensures { λ r. ⌜ BestOf (now (b .entry)) r ⌝ }
+    ensures { λ r. ⌜ BestOf (now (b .entry)) r × (1 < k → SecondOf (now (b .entry)) r) ⌝ }
 {
     let s = z.s;
     let mut best = zeros();
@@ -31,13 +32,17 @@ pub fn best_actions(b: &[i32], z: Sizes, q: &[i64; 512]) -> [usize; 64]
         let n = index::count(b, z, p);
         let c = table::best_action(q, p, n, 0);
         best[p] = c;
+        if 1 < k {
+            let own = sets::with8(0, c as u8);
+            best[64 + p] = table::best_action(q, p, n, own);
+        }
         p = p + 1;
     }
     best
 }
 
 // The action at state s: the byte of `plan` before state r, c at r, and that of `best` after it.
-fn choice(best: &[usize; 64], plan: &[u8], r: usize, c: usize, s: usize) -> usize
+fn choice(best: &[usize; 128], plan: &[u8], r: usize, c: usize, s: usize) -> usize
     requires { ⌜ (s < 64) × (s < r → s < length (now plan)) ⌝ }
     ensures { λ a. ⌜ a ≡ splitBy (byteAt (now (plan .entry))) r c (λ p. getD (now (best .entry)) p 0) s ⌝ }
 {
@@ -60,7 +65,7 @@ pub struct Stepping {
 fn step(
     b: &[i32],
     nx: &[u64; 512],
-    best: &[usize; 64],
+    best: &[usize; 128],
     plan: &[u8],
     r: usize,
     c: usize,
@@ -134,7 +139,7 @@ fn copy_before(plan: &[u8], r: usize, out: &mut [u8])
 pub fn build(
     b: &[i32],
     nx: &[u64; 512],
-    best: &[usize; 64],
+    best: &[usize; 128],
     plan: &[u8],
     r: usize,
     c: usize,

@@ -1,6 +1,6 @@
 -- Whether a candidate has a child at a state, by its byte there and by what is left.
 -- Assumes nothing.
-use mathlib.Core.Path.{_≡_, refl, sym, ap, _∙_, subst}
+use mathlib.Core.Path.{_≡_, refl, sym, ap, ap₂, _∙_, subst}
 use mathlib.Core.Bool.{Bool, true, false, not, _&&_}
 use mathlib.Core.Logic.{_⊎_, inl, ⊎-elim}
 use mathlib.Core.List.{List, [], _∷_}
@@ -10,20 +10,24 @@ use borrow.Author.Tests.{le-leb, ne-eqb, eq-eqb}
 use lib.Dec.{T, T-not, leb}
 use lib.IntN.{ℤ}
 use Rattle.model.specs.Lists.{isIn}
-use Rattle.model.specs.Model.{Words, stateCount, action}
+use Rattle.model.specs.Model.{Words, scale, stateCount, togo, action, options}
 use Rattle.model.specs.Questions.{bookNumber}
 use Rattle.model.specs.Policy.{Policy}
 use Rattle.model.specs.Path.{byteAt}
 use Rattle.model.specs.Recursion.{bestOf}
 use Rattle.questions.specs.Ranges.{and-right}
 use Rattle.laws.specs.Members.{In, Every, every-in, in-every, isIn-in, in-isIn, true-T, false-T}
+use Rattle.laws.specs.ToGo.{through-same}
+use Rattle.laws.specs.Policies.{reachedFrom}
+use Rattle.laws.specs.First.{first-byte}
 use Rattle.laws.specs.Best.{best-in, best-cases}
-use Rattle.accepted.specs.Options.{Option, option-small}
+use Rattle.accepted.specs.Options.{Option, Alive, option-small}
 use Rattle.accepted.specs.Shape.{shape}
 use Rattle.accepted.specs.Demands.{reached, policy-bytes}
+use Rattle.build.specs.Best.{bestAt}
 use Rattle.splits.specs.Parts.{Reaches, reaches-is}
 use Rattle.stored.specs.Entry.{Entry}
-use Rattle.stored.specs.Lists.{left, left-option}
+use Rattle.stored.specs.Lists.{left, left-option, listsOf, lists-after}
 use Rattle.stored.specs.Children.{Right, maskAt, childEntry, addIf, splitsAt, plan-model}
 use Rattle.accepted.specs.Bytes.{byte-cases, policy-long}
 
@@ -93,3 +97,16 @@ module _ (ws : Words) (ok : bookNumber ws ≡ 0) (e : Entry) (ri : Right ws e) (
         let i : In c (left ws p (maskAt e p)) = subst (λ (d : ℕ). In d (left ws p (maskAt e p))) (sym b) (best-some f (left ws p (maskAt e p)) (λ z. n (b ∙ z))) in
         let t : splitsAt e p ≡ true = rw (le-leb (e .split) p from, ne-eqb (byteAt (e .plan) p) 255 other) in
         (i, ap (λ (t : Bool). addIf t (left ws p (maskAt e p)) (childEntry ws e p) []) t ∙ add-some (left ws p (maskAt e p)) c (childEntry ws e p) i)
+
+    -- after the split state its action is the first best one
+    pub own-best : e .split < p → byteAt (e .plan) p ≡ bestAt ws p
+    own-best l =
+        ap (λ (bs : Policy). byteAt bs p) (ri .plan-is)
+        ∙ first-byte (scale ws) (stateCount ws) (action ws) (togo ws) (shape ws ok) (Alive ws) (listsOf ws e) (ri .lists) p (
+          subst (λ (bs : Policy). In p (reachedFrom (action ws) 0 (0 ∷ []) bs)) (ri .plan-is)
+              (reaches-is (action ws) (shape ws ok .later) p 0 (0 ∷ []) (e .plan) .0 reaches-here .0),
+          state,
+        )
+        ∙ ap₂ bestOf
+        (through-same (scale ws) (action ws) (shape ws ok .later) (listsOf ws e) (options ws) (e .split) (lists-after ws e) (togo ws p) p from)
+        (lists-after ws e p l)

@@ -4,16 +4,19 @@ use mathlib.Core.Path.{_≡_}
 use mathlib.Core.Bool.{cond}
 use mathlib.Core.Logic.{_⊎_}
 use mathlib.Core.List.{List, [], _∷_}
-use Prim.Native.Nat.{ℕ, _≤_, _<_}
+use Prim.Native.Nat.{ℕ, _+_, _≤_, _<_}
 use lib.Dec.{eqb}
-use lib.ListN.{take}
-use Rattle.model.specs.Lists.{insert}
-use Rattle.model.specs.Model.{Words, scale, stateCount, togo, action, options}
+use lib.IntN.{ℤ}
+use lib.ListN.{getD, take}
+use Rattle.model.specs.Lists.{insert, upFrom}
+use Rattle.model.specs.Model.{Words, scale, stateCount, togo, actionCount, action, options}
 use Rattle.model.specs.Policy.{Policy}
 use Rattle.model.specs.Path.{byteAt}
 use Rattle.model.specs.Recursion.{bestOf, through}
 use Rattle.laws.specs.Members.{In}
 use Rattle.accepted.specs.Options.{Option}
+use Rattle.sets.specs.Sets.{free}
+use Rattle.table.specs.Table.{rowOf}
 use Rattle.build.specs.Walk.{walkBy, chosen}
 use Rattle.reach.specs.Weights.{WeightsOf}
 use Rattle.splits.specs.Search.{admit}
@@ -31,6 +34,10 @@ entryOf e bs = record { cost = e .cost; plan = bs; split = e .split; mask = e .m
 pub record Parenting (ws : Words) (e : Parent) (bs : Policy) (w : List ℕ) : Type 0 where
   pub right : Right ws (entryOf e bs)
   pub weights : WeightsOf ws bs w
+
+-- the next action at state p, by the table of costs at the split state and by that of best actions after it
+abbrev pub nextBy : Words → List ℤ → List ℕ → ℕ → ℕ → ℕ → ℕ
+nextBy ws q best split p mask = cond (eqb split p) (bestOf (rowOf q p) (free mask (upFrom 0 (actionCount ws p)))) (getD best (64 + p) 0)
 
 -- e is split at state p, where c is the next best action after those barred, `mask` among them its own
 pub record ChildAt (ws : Words) (e : Entry) (p c mask : ℕ) : Type 0 where

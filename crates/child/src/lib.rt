@@ -11,9 +11,9 @@ ghost use Rattle.model.specs.Model.{stateCount};
 ghost use Rattle.index.specs.Index.{Checked};
 ghost use Rattle.sets.specs.Sets.{with};
 ghost use Rattle.table.specs.Table.{rowOf};
-ghost use Rattle.build.specs.Best.{RowsOf};
+ghost use Rattle.build.specs.Best.{RowsOf, SecondOf};
 ghost use Rattle.child.specs.Move.{Movable};
-ghost use Rattle.child.specs.Children.{Parenting, entryOf, ChildIs};
+ghost use Rattle.child.specs.Children.{Parenting, entryOf, nextBy, ChildIs};
 
 // The candidate whose first policy is listed: its cost, its split state and the set of actions barred there. Its bytes are lent beside it.
 pub struct Parent {
@@ -66,17 +66,39 @@ fn no_child() -> Child
     }
 }
 
+// The best action of state p that is not in `mask`, the set barred when a candidate is split there. After its own split state only its own action is
+// barred, which is the first best one: the second best is next.
+fn next_action(
+    b: &[i32],
+    z: Sizes,
+    q: &[i64; 512],
+    best: &[usize; 128],
+    split: usize,
+    p: usize,
+    mask: u8,
+) -> usize
+    requires { ⌜ Checked (now b) z × (p < stateCount (now b)) ⌝ }
+    ensures { λ r. ⌜ r ≡ nextBy (now (b .entry)) (now (q .entry)) (now (best .entry)) split p mask ⌝ }
+{
+    if split == p {
+        let n = index::count(b, z, p);
+        return table::best_action(q, p, n, mask);
+    }
+    best[64 + p]
+}
+
 // The child of e at state p, if e reaches p and an action is left there.
 pub fn child_at(
     b: &[i32],
     z: Sizes,
     q: &[i64; 512],
+    best: &[usize; 128],
     w: &[usize; 64],
     plan: &[u8],
     e: Parent,
     p: usize,
 ) -> Child
-    requires { ⌜ Checked (now b) z × RowsOf (now b) (now q) × Parenting (now b) e (now plan) (now w) × (e .split ≤ p) × (p < stateCount (now b)) ⌝ }
+    requires { ⌜ Checked (now b) z × RowsOf (now b) (now q) × SecondOf (now b) (now best) × Parenting (now b) e (now plan) (now w) × (e .split ≤ p) × (p < stateCount (now b)) ⌝ }
     ensures { λ r. ⌜ ChildIs (now (b .entry)) (entryOf e (now (plan .entry))) p r ⌝ }
 {
     let f = plan[p] as usize;
@@ -84,8 +106,7 @@ pub fn child_at(
         return no_child();
     }
     let mask = mask_at(e.split, e.mask, p, f);
-    let n = index::count(b, z, p);
-    let c = table::best_action(q, p, n, mask);
+    let c = next_action(b, z, q, best, e.split, p, mask);
     if c == 255 {
         return no_child();
     }

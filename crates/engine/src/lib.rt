@@ -3,7 +3,7 @@
 // its set is among the first K.
 //
 // The pool goes from step to step by value. What is read of the book is lent: x (where each state stands), nx (the next states of each action), q (the
-// cost of each action) and best (the first best action of each state).
+// cost of each action) and best (the first and the second best action of each state).
 use book::Sizes;
 use child::Child;
 use child::Parent;
@@ -17,7 +17,7 @@ ghost use Rattle.model.specs.Questions.{bookNumber};
 ghost use Rattle.accepted.specs.Options.{Option};
 ghost use Rattle.index.specs.Index.{Checked};
 ghost use Rattle.nexts.specs.Nexts.{NextsOf};
-ghost use Rattle.build.specs.Best.{BestOf};
+ghost use Rattle.build.specs.Best.{BestOf, SecondOf};
 ghost use Rattle.build.specs.Walk.{walkBy, chosen, Usable, Walked};
 ghost use Rattle.pool.specs.Entries.{entries, Slots, Formed, Holding};
 ghost use Rattle.stored.specs.Runs.{runEntries};
@@ -35,7 +35,7 @@ fn row_of(
     b: &[i32],
     z: Sizes,
     nx: &[u64; 512],
-    best: &[usize; 64],
+    best: &[usize; 128],
     plan: &[u8],
     p: usize,
     c: usize,
@@ -87,11 +87,11 @@ fn split_first(
     x: &[usize; 192],
     nx: &[u64; 512],
     q: &[i64; 512],
-    best: &[usize; 64],
+    best: &[usize; 128],
     plan: &[u8],
     mut pool: Pool,
 ) -> Pool
-    requires { ⌜ Ready (now b) z (now x) (now nx) (now q) (now best) × Splittable (now b) (now plan) pool ⌝ }
+    requires { ⌜ Ready (now b) z (now x) (now nx) (now q) (now best) × Splittable (now b) (now plan) pool × SecondOf (now b) (now best) ⌝ }
     ensures { λ r. ⌜ Holding (stateCount (now (b .entry))) (splitPool (now (b .entry)) (pool .most) (entries (stateCount (now (b .entry))) pool)) pool r ⌝ }
 {
     let s = z.s;
@@ -104,7 +104,7 @@ fn split_first(
     let mut p = e.split;
     let mut reach = build::reached_before(b, nx, plan, p);
     while p < s {
-        let d = child::child_at(b, z, q, &w, plan, e, p);
+        let d = child::child_at(b, z, q, best, &w, plan, e, p);
         let cost = d.cost;
         let state = p;
         let from = reach;
@@ -136,12 +136,12 @@ fn search(
     x: &[usize; 192],
     nx: &[u64; 512],
     q: &[i64; 512],
-    best: &[usize; 64],
+    best: &[usize; 128],
     mut pool: Pool,
     costs: &mut [i64],
     plans: &mut [u8],
 ) -> usize
-    requires { ⌜ Ready (now b) z (now x) (now nx) (now q) (now best) × Searchable (now b) pool (now costs) (now plans) ⌝ }
+    requires { ⌜ Ready (now b) z (now x) (now nx) (now q) (now best) × Searchable (now b) pool (now costs) (now plans) × (1 < pool .most → SecondOf (now b) (now best)) ⌝ }
     ensures { λ r. ⌜ Found (runEntries (now (b .entry)) (pool .most) (pool .most) (entries (stateCount (now (b .entry))) pool)) r (now (costs .entry)) (now (costs .exit)) (now (plans .entry)) (now (plans .exit)) ⌝ }
 {
     let k = pool.most;
@@ -166,7 +166,14 @@ fn search(
 }
 
 // The pool of at most k with the first candidate: all policies, of which the first takes the first best actions and costs `cost`.
-fn first_pool(b: &[i32], z: Sizes, nx: &[u64; 512], best: &[usize; 64], cost: i64, k: usize) -> Pool
+fn first_pool(
+    b: &[i32],
+    z: Sizes,
+    nx: &[u64; 512],
+    best: &[usize; 128],
+    cost: i64,
+    k: usize,
+) -> Pool
     requires { ⌜ Checked (now b) z × NextsOf (now b) (now nx) × BestOf (now b) (now best) × (cost ≡ firstCandidate (now b) .cost) × (1 ≤ k) × (k ≤ 64) ⌝ }
     ensures { λ r. ⌜ Formed r × (r .most ≡ k) × (entries (stateCount (now (b .entry))) r ≡ firstCandidate (now (b .entry)) ∷ []) ⌝ }
 {
@@ -185,7 +192,7 @@ pub fn list(b: &[i32], k: usize, costs: &mut [i64], plans: &mut [u8]) -> usize
     let x = index::index(b, z);
     let nx = nexts::next_sets(b, z, &x);
     let t = table::make_table(b, z, &x);
-    let best = build::best_actions(b, z, &t.q);
+    let best = build::best_actions(b, z, &t.q, k);
     let start = first_pool(b, z, &nx, &best, t.v[0], k);
     search(b, z, &x, &nx, &t.q, &best, start, costs, plans)
 }

@@ -16,7 +16,7 @@ use Rattle.stored.specs.Entry.{Entry}
 use Rattle.stored.specs.Children.{childEntry}
 use Rattle.child.specs.Children.{ChildAt, entryOf, joined, admitted}
 use Rattle.child.proofs.Children.{in-plan, Facts, facts, made-is, if-some, none-is}
-use Rattle.child.proofs.State.{unreached, small, below-64, few-actions, none, child-at, one}
+use Rattle.child.proofs.State.{unreached, small, none, child-at, one}
 use Rattle.child.proofs.child_at.Statement.{statement}
 use Rattle.child.proofs.child_at.Tie as tie
 
@@ -29,7 +29,7 @@ en s = entryOf (s .args .e) (s .args .plan .now)
 shared-slice-read-f : tie.Need-shared-slice-read-f
 shared-slice-read-f c =
     let s = c .before .before in
-    in-plan (ws s) (s .pre .0 .ok) (s .args .q .now) (s .pre .1) (en s) (s .pre .2 .right) (s .args .p) (s .pre .4)
+    in-plan (ws s) (s .pre .0 .ok) (s .args .q .now) (s .pre .1) (en s) (s .pre .3 .right) (s .args .p) (s .pre .5)
 
 cast-f : tie.Need-cast-f
 cast-f c = omega (arith, c .shared-slice-known2 .given (c .before .before .args .p) .fits)
@@ -41,30 +41,18 @@ returns : tie.Need-returns
 returns c =
     let s = c .before .before .before .before in
     none-is (ws s) (en s) (s .args .p) _ (c .no-child .ensures)
-    (λ k es. unreached (ws s) (s .pre .0 .ok) (s .args .q .now) (s .pre .1) (en s) (s .pre .2 .right) (s .args .p) (s .pre .3) (s .pre .4) k es
+    (λ k es. unreached (ws s) (s .pre .0 .ok) (s .args .q .now) (s .pre .1) (en s) (s .pre .3 .right) (s .args .p) (s .pre .4) (s .pre .5) k es
     (c .before .if1 .taken))
 
 mask-at-requires : tie.Need-mask-at-requires
 mask-at-requires c κs =
     let s = c .before .before .before in
-    small (ws s) (s .pre .0 .ok) (s .args .q .now) (s .pre .1) (en s) (s .pre .2 .right) (s .args .p) (s .pre .3) (s .pre .4) 0 [] (c .if1 .left)
+    small (ws s) (s .pre .0 .ok) (s .args .q .now) (s .pre .1) (en s) (s .pre .3 .right) (s .args .p) (s .pre .4) (s .pre .5) 0 [] (c .if1 .left)
 
-count-requires : tie.Need-count-requires
-count-requires c κs =
+next-action-requires : tie.Need-next-action-requires
+next-action-requires c κs =
     let s = c .before .before .before .before in
-    (s .pre .0, s .pre .4)
-
-best-action-requires : tie.Need-best-action-requires
-best-action-requires c κs =
-    let s = c .before .before .before .before .before in (
-      below-64 (ws s) (s .pre .0 .ok) (s .args .q .now) (s .pre .1) (en s) (s .pre .2 .right) (s .args .p) (s .pre .3) (s .pre .4) 0 [],
-      omega (
-        arith,
-        c .count .ensures,
-        few-actions (ws s) (s .pre .0 .ok) (s .args .q .now) (s .pre .1) (en s) (s .pre .2 .right) (s .args .p)
-            (s .pre .3) (s .pre .4) 0 [],
-      ),
-    )
+    (s .pre .0, s .pre .5)
 
 no-child-requires-2 : tie.Need-no-child-requires-2
 no-child-requires-2 c κs = tt
@@ -72,39 +60,36 @@ no-child-requires-2 c κs = tt
 returns-2 : tie.Need-returns-2
 returns-2 c =
     let t = c .before in
-    let s = t .before .before .before .before .before .before .before in
+    let s = t .before .before .before .before .before .before in
     none-is (ws s) (en s) (s .args .p) _ (c .no-child2 .ensures)
-    (λ k es. none (ws s) (s .pre .0 .ok) (s .args .q .now) (s .pre .1) (en s) (s .pre .2 .right) (s .args .p) (s .pre .3) (s .pre .4) k es
-    (t .before .before .before .before .if1 .left) _ _ _ (t .before .before .before .mask-at .ensures) (t .before .before .count .ensures)
-    (t .before .best-action .ensures) (t .if2 .taken))
+    (λ k es. none (ws s) (s .pre .0 .ok) (s .args .q .now) (s .pre .1) (en s) (s .pre .3 .right) (s .args .p) (s .pre .4) (s .pre .5) k es
+    (t .before .before .before .if1 .left) (s .args .best .now) (s .pre .2) _ _ (t .before .before .mask-at .ensures) (t .before .next-action .ensures) (t .if2 .taken))
 
 -- where an action is left
 module _ (c : tie.Else2) where
   abbrev s : tie.Start
-  s = c .before .before .before .before .before .before .before
+  s = c .before .before .before .before .before .before
 
-  child : ChildAt (ws s) (en s) (s .args .p) (c .before .best-action .result) (c .before .before .before .mask-at .result)
+  child : ChildAt (ws s) (en s) (s .args .p) (c .before .next-action .result) (c .before .before .mask-at .result)
   child =
-      child-at (ws s) (s .pre .0 .ok) (s .args .q .now) (s .pre .1) (en s) (s .pre .2 .right) (s .args .p) (s .pre .3) (s .pre .4) 0 []
-      (c .before .before .before .before .if1 .left) _ _ _ (c .before .before .before .mask-at .ensures) (c .before .before .count .ensures)
-      (c .before .best-action .ensures) (c .if2 .left)
+      child-at (ws s) (s .pre .0 .ok) (s .args .q .now) (s .pre .1) (en s) (s .pre .3 .right) (s .args .p) (s .pre .4) (s .pre .5) 0 []
+      (c .before .before .before .if1 .left) (s .args .best .now) (s .pre .2) _ _ (c .before .before .mask-at .ensures) (c .before .next-action .ensures) (c .if2 .left)
 
-  known : Facts (ws s) (s .args .q .now) (en s) (s .args .w .now) (s .args .p) (c .before .best-action .result)
+  known : Facts (ws s) (s .args .q .now) (en s) (s .args .w .now) (s .args .p) (c .before .next-action .result)
       (getD (s .args .plan .now) (s .args .p) 0)
   known =
-      facts (ws s) (s .pre .0 .ok) (s .args .q .now) (s .pre .1) (en s) (s .pre .2 .right) (s .args .w .now)
-      (s .pre .2 .weights) (s .args .p) (c .before .best-action .result) (c .before .before .before .mask-at .result) child
+      facts (ws s) (s .pre .0 .ok) (s .args .q .now) (s .pre .1) (en s) (s .pre .3 .right) (s .args .w .now)
+      (s .pre .3 .weights) (s .args .p) (c .before .next-action .result) (c .before .before .mask-at .result) child
 
   joins : (k : ℕ) (es : List Entry) → joined k (childEntry (ws s) (en s) (s .args .p)) es ≡ admitted (ws s) k (en s) (s .args .p) es
   joins k es =
-      one (ws s) (s .pre .0 .ok) (s .args .q .now) (s .pre .1) (en s) (s .pre .2 .right) (s .args .p) (s .pre .3) (s .pre .4) k es
-      (c .before .before .before .before .if1 .left) _ _ _ (c .before .before .before .mask-at .ensures) (c .before .before .count .ensures)
-      (c .before .best-action .ensures) (c .if2 .left)
+      one (ws s) (s .pre .0 .ok) (s .args .q .now) (s .pre .1) (en s) (s .pre .3 .right) (s .args .p) (s .pre .4) (s .pre .5) k es
+      (c .before .before .before .if1 .left) (s .args .best .now) (s .pre .2) _ _ (c .before .before .mask-at .ensures) (c .before .next-action .ensures) (c .if2 .left)
 
   -- the cost that is passed on is the child's
   money : (r : ℤ)
       → r ≡ toZ w64 (ofZ w64 (s .args .e .cost)) +ℤ pos (getD (s .args .w .now) (s .args .p) 0)
-      *ℤ (rowOf (s .args .q .now) (s .args .p) (c .before .best-action .result) -ℤ rowOf (s .args .q .now) (s .args .p)
+      *ℤ (rowOf (s .args .q .now) (s .args .p) (c .before .next-action .result) -ℤ rowOf (s .args .q .now) (s .args .p)
       (getD (s .args .plan .now) (s .args .p) 0))
       → toZ w64 (ofZ w64 r) ≡ childEntry (ws s) (en s) (s .args .p) .cost
   money r h =
@@ -123,7 +108,7 @@ returns-3 c =
     let t = s d in record {
       joins = λ k es. if-some k (ws t) (t .args .plan .now) (t .args .p) _ es (d .if2 .left)
           ∙ ap (λ (e : Entry). joined k e es)
-          (made-is (ws t) (t .args .q .now) (en t) (t .args .w .now) (t .args .p) (d .before .best-action .result)
+          (made-is (ws t) (t .args .q .now) (en t) (t .args .w .now) (t .args .p) (d .before .next-action .result)
           (getD (t .args .plan .now) (t .args .p) 0) (known d)
           (money d _ (c .child-cost .ensures)) (child d .mask-is))
           ∙ joins d k es;
@@ -139,8 +124,7 @@ child-at-spec =
     no-child-requires
     returns
     mask-at-requires
-    count-requires
-    best-action-requires
+    next-action-requires
     no-child-requires-2
     returns-2
     child-cost-requires

@@ -37,7 +37,7 @@ first-pool-requires c κs =
     let s = t .before .before .before .before .before .before .before in (
       t .before .before .before .before .index .ensures .checked,
       t .before .before .next-sets .ensures,
-      c .before .before .before .best-actions .ensures,
+      c .before .before .before .best-actions .ensures .0,
       cost-first (s .args .b .now) (s .pre .0) _ _ (t .make-table .ensures),
       s .pre .1,
       s .pre .2,
@@ -52,7 +52,7 @@ search-requires c κs =
         indexed = t .before .before .before .before .index .ensures;
         next = t .before .before .next-sets .ensures;
         rows = table-rows _ _ _ (t .make-table .ensures);
-        firsts = f .before .before .before .before .best-actions .ensures;
+        firsts = f .before .before .before .before .best-actions .ensures .0;
       },
       record {
         formed = f .first-pool .ensures .0;
@@ -60,6 +60,7 @@ search-requires c κs =
         costs-room = omega (arith, f .first-pool .ensures .1, s .pre .3);
         plans-room = subst (λ (k : ℕ). k * stateCount (s .args .b .now) ≤ length (s .args .plans .now)) (sym (f .first-pool .ensures .1)) (s .pre .4);
       },
+      λ h. f .before .before .before .before .best-actions .ensures .1 (omega (arith, f .first-pool .ensures .1, h)),
     )
 
 same-length : tie.Need-same-length

@@ -260,6 +260,7 @@ split-first-requires c κs =
     let i = e (o r) in (
       g i .pre .0,
       record { formed = formed i; some = some i; right = right i; bytes-are = rows-read (o r) (r .read-row .ensures) },
+      g i .pre .2 (omega arith),
     )
 
 loop-less : tie.Need-loop-less Inv-loop μ-loop

@@ -136,6 +136,7 @@ child-at-requires c κs =
     let h = st t .pre .0 in (
       h .indexed .checked,
       h .rows,
+      st t .pre .2,
       record { right = right (v t); weights = t .before .before .before .reach-weights .ensures },
       t .before .loop .inv .0 .from,
       state t,
