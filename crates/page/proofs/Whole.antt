@@ -21,7 +21,7 @@ use Rattle.bytes_io.proofs.Numbers.{length-words}
 use Rattle.bytes_io.proofs.Parts.{written-front}
 use Rattle.text.specs.Text.{Appended}
 use Rattle.text.proofs.Steps.{spoken}
-use Rattle.lines.specs.Lines.{titleText}
+use Rattle.page_lines.specs.Lines.{titleText}
 use Rattle.page.specs.Pages.{pageOfRead, page-is, pageLength, pageSlice}
 
 -- ---- the title

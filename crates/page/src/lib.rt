@@ -20,12 +20,12 @@ fn put_book(b: &[i32], k: usize, out: &mut [u8]) -> usize
 {
     let no = asked::asked_number(b, k);
     if no != 0 {
-        return lines::put_refused(out, no);
+        return page_lines::put_refused(out, no);
     }
     let z = book::read_sizes(b);
     let l = listing::list(b, k);
-    let at = lines::put_title(out, l.n as u64, k as u64, power::power(z.d, z.h));
-    lines::put_lines(out, at, l)
+    let at = page_lines::put_title(out, l.n as u64, k as u64, power::power(z.d, z.h));
+    page_lines::put_lines(out, at, l)
 }
 
 // The page of what was read, of which every byte counts.
@@ -34,10 +34,10 @@ fn put_read(r: &[u8], out: &mut [u8]) -> usize
     ensures { λ q. ⌜ Appended (now (out .entry)) 0 (pageOfRead (now (r .entry))) (now (out .exit)) q ⌝ }
 {
     if r.len() < 4 {
-        return lines::put_refused(out, 1);
+        return page_lines::put_refused(out, 1);
     }
     if r.len() % 4 != 0 {
-        return lines::put_refused(out, 1);
+        return page_lines::put_refused(out, 1);
     }
     let n = r.len() / 4 - 1;
     let k = bytes_io::read4(r, 0) as usize;

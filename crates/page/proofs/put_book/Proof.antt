@@ -9,7 +9,7 @@ use Rattle.asked.specs.Asked.{Asked, asked-says}
 use Rattle.index.proofs.Lines.{headed}
 use Rattle.text.specs.Text.{joined}
 use Rattle.text.proofs.Steps.{spoken}
-use Rattle.lines.specs.Lines.{titleText, title-long, lines-are}
+use Rattle.page_lines.specs.Lines.{titleText, title-long, lines-are}
 use Rattle.page.proofs.Whole.{title-is, book-refused, book-listed}
 use borrow.Author.Needs.{needs}
 use Rattle.page.proofs.put_book.Statement.{statement}

@@ -1,10 +1,10 @@
 -- The six texts of the title, one after another.
 -- Assumes nothing.
 use native.Mathlib.Omega.{arith}
-use Rattle.lines.proofs.Title.{after-n, after-of, after-k, after-word, after-scale, title}
+use Rattle.page_lines.proofs.Title.{after-n, after-of, after-k, after-word, after-scale, title}
 use borrow.Author.Needs.{needs}
-use Rattle.lines.proofs.put_title.Statement.{statement}
-use Rattle.lines.proofs.put_title.Tie as tie
+use Rattle.page_lines.proofs.put_title.Statement.{statement}
+use Rattle.page_lines.proofs.put_title.Tie as tie
 
 put-number-requires : tie.Need-put-number-requires
 put-number-requires c κs = search needs

@@ -5,7 +5,7 @@ ghost use lib.ListN.{length};
 ghost use Rattle.model.specs.Page.{refusedLine};
 ghost use Rattle.record.specs.Listed.{Held};
 ghost use Rattle.text.specs.Text.{Appended};
-ghost use Rattle.lines.specs.Lines.{titleText, arrayLines};
+ghost use Rattle.page_lines.specs.Lines.{titleText, arrayLines};
 
 pub fn put_refused(out: &mut [u8], no: u32) -> usize
     requires { ⌜ 40 ≤ length (now out) ⌝ }

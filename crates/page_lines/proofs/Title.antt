@@ -7,7 +7,7 @@ use native.Mathlib.Omega.{arith}
 use lib.ListN.{length}
 use Rattle.model.specs.Page.{decimal, refusedLine}
 use Rattle.text.specs.Text.{Appended, joined, decimal-long}
-use Rattle.lines.specs.Lines.{titleText}
+use Rattle.page_lines.specs.Lines.{titleText}
 
 -- `refused `, ` of ` and `, scale `
 abbrev pub refusedWord : List ℕ

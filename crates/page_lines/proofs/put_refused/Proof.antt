@@ -1,10 +1,10 @@
 -- The word, the number and the line feed.
 -- Assumes nothing.
 use native.Mathlib.Omega.{arith}
-use Rattle.lines.proofs.Title.{after-no, refusal}
+use Rattle.page_lines.proofs.Title.{after-no, refusal}
 use borrow.Author.Needs.{needs}
-use Rattle.lines.proofs.put_refused.Statement.{statement}
-use Rattle.lines.proofs.put_refused.Tie as tie
+use Rattle.page_lines.proofs.put_refused.Statement.{statement}
+use Rattle.page_lines.proofs.put_refused.Tie as tie
 
 slice-aggregate-put-text : tie.Need-slice-aggregate-put-text
 slice-aggregate-put-text c = search needs

@@ -10,11 +10,11 @@ use mir.Syntax.{w64}
 use mir.Val.{SFits}
 use Rattle.text.specs.Text.{Appended, lineText}
 use Rattle.text.proofs.Steps.{nothing}
-use Rattle.lines.proofs.Part.{within, part, part-long, next-end, next-line}
-use Rattle.lines.specs.Lines.{arrayLines}
+use Rattle.page_lines.proofs.Part.{within, part, part-long, next-end, next-line}
+use Rattle.page_lines.specs.Lines.{arrayLines}
 use borrow.Author.Needs.{needs}
-use Rattle.lines.proofs.put_lines.Statement.{statement}
-use Rattle.lines.proofs.put_lines.Tie as tie
+use Rattle.page_lines.proofs.put_lines.Statement.{statement}
+use Rattle.page_lines.proofs.put_lines.Tie as tie
 
 abbrev Inv-loop : tie.InvT-loop
 Inv-loop out₀ at l plans p₀ j₀ out p j =

@@ -11,7 +11,7 @@ use lib.ListN.{length, take, drop, getD, length-drop}
 use lib.Seq.{length-take-le}
 use Rattle.record.specs.declared.Listing.{Listing}
 use Rattle.text.specs.Text.{Appended, joined, lineText, line-long}
-use Rattle.lines.specs.Lines.{arrayLines}
+use Rattle.page_lines.specs.Lines.{arrayLines}
 
 -- policy j of n ends within the array
 pub within : (j n s : ℕ) → suc j ≤ n → j * s + s ≤ n * s
