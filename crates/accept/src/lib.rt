@@ -1,27 +1,14 @@
 // Accepting a record: the questions 19, 1 to 14, 20 and 21 for any bytes; and showing one policy of a record.
 ghost use mathlib.Core.Path.{_≡_};
-ghost use Rattle.model.specs.Model.{stateCount};
 ghost use Rattle.model.specs.Questions.{firstNo};
-ghost use Rattle.model.specs.Record.{carriedK, carriedBook, headQuestions, tailQuestions, acceptNumber};
+ghost use Rattle.model.specs.Record.{carriedBook, headQuestions, acceptNumber};
 ghost use Rattle.model.specs.Calls.{acceptStates, acceptCount, shown};
-ghost use Rattle.asked.specs.Asked.{Asked};
 
 // The number of the first question that is answered no, or 0; how many states the book has and how many policies are listed, both 0 where the record is refused.
 pub struct Accepted {
     pub no: u32,
     pub s: usize,
     pub k: usize,
-}
-
-// 20 and 21: the policies of the carried book b are ranked, and the list is compared.
-fn list_number(r: &[u8], b: &[i32], k: usize, s: usize) -> u32
-    requires { ⌜ (firstNo headQuestions (now r) ≡ 0) × (now b ≡ carriedBook (now r)) × (k ≡ carriedK (now r)) × (s ≡ stateCount (carriedBook (now r))) × Asked (carriedBook (now r)) (carriedK (now r)) ⌝ }
-    ensures { λ x. ⌜ x ≡ firstNo tailQuestions (now (r .entry)) ⌝ }
-{
-    let mut costs = record::no_costs();
-    let mut plans = record::no_plans();
-    let n = engine::list(b, k, &mut costs, &mut plans);
-    record::tail_number(r, s, n, &costs, &plans)
 }
 
 // All that is asked after 19, of the carried book b.
@@ -34,8 +21,8 @@ fn accept_book(r: &[u8], b: &[i32]) -> Accepted
     if no != 0 {
         return Accepted { no: no, s: 0, k: 0 };
     }
-    let z = book::read_sizes(b);
-    let last = list_number(r, b, k, z.s);
+    let l = listing::list(b, k);
+    let last = record::tail_number(r, l);
     if last != 0 {
         return Accepted {
             no: last,
@@ -45,8 +32,8 @@ fn accept_book(r: &[u8], b: &[i32]) -> Accepted
     }
     Accepted {
         no: 0,
-        s: z.s,
-        k: record::carried_count(r),
+        s: l.s,
+        k: l.n,
     }
 }
 
@@ -69,8 +56,5 @@ pub fn show(r: &[u8], j: usize) -> &[u8]
     ensures { λ p. ⌜ now p ≡ shown (now (r .entry)) j ⌝ }
 {
     let a = accept(r);
-    if a.no != 0 {
-        return &r[0..0];
-    }
-    record::shown_part(r, a.s, a.k, j)
+    place::part(r, a.s, a.k, j)
 }

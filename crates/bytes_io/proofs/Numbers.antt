@@ -1,18 +1,19 @@
 -- Numbers as bytes: what is written reads back, and what is read is what would be written.
 -- Assumes nothing.
-use mathlib.Core.Path.{_≡_, refl, ap, _∙_}
-use mathlib.Core.Bool.{Bool, true, false, cond, _&&_}
+use mathlib.Core.Path.{_≡_, refl, sym, ap, _∙_}
+use mathlib.Core.Bool.{Bool, true, false, cond}
 use mathlib.Core.List.{List, [], _∷_, _++_, append-assoc}
 use Prim.Native.Nat.{ℕ, zero, suc, _+_, _*_, _-_, _^_, _/_, _%_, _≤_, _<_}
-use native.Mathlib.Nat.{pow-suc, div-lt-iff-lt-mul, mod-add-div, suc-inj, zero-add}
+use native.Mathlib.Nat.{pow-succ', pow-suc, one-le-pow, mul-assoc, mul-suc, div-lt-iff-lt-mul, mod-add-div, suc-inj, zero-add}
 use native.Mathlib.Omega.{arith}
 use borrow.Author.Tests.{lt-ltb, le-ltb, ltb-true}
-use lib.Dec.{T, ltb, eqb}
+use lib.Pow.{pow-add}
+use lib.Dec.{T, ltb}
 use lib.IntN.{ℤ, pos, negsuc, natAbs, _-ℤ_}
 use lib.Signed.{mag, ltZ, nonNeg}
 use lib.ListN.{length, take, drop, getD}
-use lib.Seq.{length-take-le, take-at, drop-at, drop-drop}
-use Rattle.model.specs.Lists.{forEach, same}
+use lib.Seq.{take-at, drop-at, drop-drop}
+use Rattle.model.specs.Lists.{forEach}
 use Rattle.model.specs.Bytes.{bytes, signedBytes, fromBytes, signed, wordsOf}
 use Rattle.laws.specs.Members.{Every}
 use Rattle.bytes_io.specs.Slices.{complement}
@@ -45,18 +46,9 @@ read-bytes (suc n) x h =
 pub bytes-step : (i n y : ℕ) → i < n → bytes (n - i) y ≡ y % 256 ∷ bytes (n - (i + 1)) (y / 256)
 bytes-step i n y h = let k : n - i ≡ suc (n - (i + 1)) = omega arith in rw k
 
-pub same-low-step : (r : List ℕ) (at i n y : ℕ) → i < n → at + n ≤ length r
-    → same (take (n - i) (drop (at + i) r)) (bytes (n - i) y)
-    ≡ (eqb (getD r (at + i) 0) (y % 256) && same (take (n - (i + 1)) (drop (at + (i + 1)) r)) (bytes (n - (i + 1)) (y / 256)))
-same-low-step r at i n y h k = rw (part-step r i n (at + i) (at + (i + 1)) 0 h (omega arith) (omega arith), bytes-step i n y h)
-
 -- a list of bytes
 abbrev pub Bytes : List ℕ → Type 0
 Bytes bs = Every (λ b. b < 256) bs
-
-pub all-bytes : (bs : List ℕ) → ((i : ℕ) → getD bs i 0 < 256) → Bytes bs
-all-bytes [] h = tt
-all-bytes (b ∷ bs) h = (h 0, all-bytes bs (λ i. h (suc i)))
 
 pub bytes-take : (n : ℕ) (bs : List ℕ) → Bytes bs → Bytes (take n bs)
 bytes-take zero bs h = tt
@@ -82,9 +74,6 @@ bytes-read (suc n) (b ∷ bs) e h =
     let d : (b + 256 * fromBytes bs) / 256 ≡ fromBytes bs = omega (arith, h .0) in
     rw (m, d, bytes-read n bs (suc-inj e) (h .1))
 
-pub bytes-front : (n : ℕ) (bs : List ℕ) → n ≤ length bs → Bytes bs → bytes n (fromBytes (take n bs)) ≡ take n bs
-bytes-front n bs l h = bytes-read n (take n bs) (length-take-le n bs l) (bytes-take n bs h)
-
 -- four bytes of a slice
 pub four-bytes : (r : List ℕ) (at : ℕ) → at + 4 ≤ length r
     → fromBytes (take 4 (drop at r)) ≡ getD r at 0 + 256 * (getD r (at + 1) 0 + 256 * (getD r (at + 2) 0 + 256 * getD r (at + 3) 0))
@@ -109,18 +98,33 @@ pub above : (x : ℤ) → ltZ x (pos 0) ≡ true → negsuc 0 -ℤ x ≡ pos (ma
 above (pos n) e = absurd (omega (arith, ltb-true n 0 e))
 above (negsuc n) e = let h : suc n - 1 ≡ n = omega arith in rw (le-ltb (suc n) 1 (omega arith), h)
 
-pub complement-neg : (most : ℕ) (x : ℤ) → ltZ x (pos 0) ≡ true → most - mag x ≡ complement most x
-complement-neg most (pos n) e = absurd (omega (arith, ltb-true n 0 e))
-complement-neg most (negsuc n) e = refl
+pub complement-neg : (x : ℤ) → ltZ x (pos 0) ≡ true → 18446744073709551615 - mag x ≡ complement x
+complement-neg (pos n) e = absurd (omega (arith, ltb-true n 0 e))
+complement-neg (negsuc n) e = refl
 
-pub complement-pos : (most : ℕ) (x : ℤ) → T (nonNeg x) → natAbs x ≡ complement most x
-complement-pos most (pos n) t = refl
-complement-pos most (negsuc n) t = absurd t
+pub complement-pos : (x : ℤ) → T (nonNeg x) → natAbs x ≡ complement x
+complement-pos (pos n) t = refl
+complement-pos (negsuc n) t = absurd t
 
--- the bytes of the complement are those of the signed number
-pub complement-bytes : (n : ℕ) (z : ℤ) → bytes n (complement (256 ^ n - 1) z) ≡ signedBytes n z
-complement-bytes n (pos x) = refl
-complement-bytes n (negsuc x) = ap (bytes n) (omega arith)
+-- what lies above the n low bytes is not written
+bytes-low : (n y q : ℕ) → bytes n (y + 256 ^ n * q) ≡ bytes n y
+bytes-low zero y q = refl
+bytes-low (suc n) y q =
+    let up : 256 ^ suc n * q ≡ 256 * (256 ^ n * q) = rw (pow-succ', mul-assoc) in
+    let m : (y + 256 * (256 ^ n * q)) % 256 ≡ y % 256 = omega arith in
+    let d : (y + 256 * (256 ^ n * q)) / 256 ≡ y / 256 + 256 ^ n * q = omega arith in
+    rw (up, m, d, bytes-low n (y / 256) q)
+
+-- the low bytes of the complement are those of the signed number
+pub complement-bytes : (n : ℕ) (z : ℤ) → n ≤ 8 → mag z < 256 ^ n → bytes n (complement z) ≡ signedBytes n z
+complement-bytes n (pos x) l h = refl
+complement-bytes n (negsuc x) l h =
+    let k : n + (8 - n) ≡ 8 = omega arith in
+    let all : 256 ^ n * 256 ^ (8 - n) ≡ 256 ^ 8 = sym (pow-add 256 n (8 - n)) ∙ ap (λ (m : ℕ). 256 ^ m) k in
+    let q = 256 ^ (8 - n) - 1 in
+    let p : 256 ^ (8 - n) ≡ suc q = omega (arith, one-le-pow (8 - n) 256 (omega arith)) in
+    let e : 18446744073709551615 - x ≡ 256 ^ n - suc x + 256 ^ n * q = omega (arith, all, ap (λ (m : ℕ). 256 ^ n * m) p, mul-suc (256 ^ n) q) in
+    ap (bytes n) e ∙ bytes-low n (256 ^ n - suc x) q
 
 pub read-signed : (z : ℤ) → mag z < 2 ^ 31 → signed (fromBytes (signedBytes 4 z)) ≡ z
 read-signed (pos x) h = rw (read-bytes 4 x (omega arith), lt-ltb x 2147483648 h)

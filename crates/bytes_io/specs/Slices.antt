@@ -10,7 +10,7 @@ module _ {A : Type 0} where
   abbrev pub written : List A → ℕ → ℕ → List A → List A
   written o at n xs = take at o ++ xs ++ drop (at + n) o
 
--- two's complement, where `most` is the largest unsigned number of the width
-abbrev pub complement : ℕ → ℤ → ℕ
-complement most (pos x) = x
-complement most (negsuc x) = most - x
+-- two's complement in 64 bits
+abbrev pub complement : ℤ → ℕ
+complement (pos x) = x
+complement (negsuc x) = 18446744073709551615 - x

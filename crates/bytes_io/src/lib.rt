@@ -1,6 +1,6 @@
 // Numbers in byte slices, low byte first: read, written and compared.
 ghost use mathlib.Core.Path.{_≡_};
-ghost use Prim.Native.Nat.{_+_, _*_, _<_, _≤_};
+ghost use Prim.Native.Nat.{_+_, _*_, _^_, _<_, _≤_};
 ghost use lib.Signed.{mag};
 ghost use lib.ListN.{length, take, drop};
 ghost use Rattle.model.specs.Lists.{forEach, same};
@@ -77,13 +77,12 @@ fn write_low(out: &mut [u8], at: usize, n: usize, x: u64)
     }
 }
 
-// Two's complement out, where `most` is the largest unsigned number of the width.
-fn to_unsigned(x: i64, most: u64) -> u64
-    requires { ⌜ mag x ≤ most ⌝ }
-    ensures { λ q. ⌜ q ≡ complement most x ⌝ }
+// Two's complement out.
+fn to_unsigned(x: i64) -> u64
+    ensures { λ q. ⌜ q ≡ complement x ⌝ }
 {
     if x < 0 {
-        return most - ((-1 - x) as u64);
+        return 18446744073709551615 - ((-1 - x) as u64);
     }
     x as u64
 }
@@ -96,20 +95,12 @@ pub fn write4(out: &mut [u8], at: usize, x: usize)
     write_low(out, at, 4, x as u64);
 }
 
-// A signed word of four bytes.
-pub fn write_word(out: &mut [u8], at: usize, x: i32)
-    requires { ⌜ at + 4 ≤ length (now out) ⌝ }
-    ensures { λ _. ⌜ now (out .exit) ≡ written (now (out .entry)) at 4 (signedBytes 4 x) ⌝ }
+// A signed number of n bytes.
+fn write_signed(out: &mut [u8], at: usize, n: usize, x: i64)
+    requires { ⌜ (at + n ≤ length (now out)) × (n ≤ 8) × (mag x < 256 ^ n) ⌝ }
+    ensures { λ _. ⌜ now (out .exit) ≡ written (now (out .entry)) at n (signedBytes n x) ⌝ }
 {
-    write_low(out, at, 4, to_unsigned(x as i64, 4294967295));
-}
-
-// A cost of eight bytes.
-pub fn write_cost(out: &mut [u8], at: usize, x: i64)
-    requires { ⌜ at + 8 ≤ length (now out) ⌝ }
-    ensures { λ _. ⌜ now (out .exit) ≡ written (now (out .entry)) at 8 (signedBytes 8 x) ⌝ }
-{
-    write_low(out, at, 8, to_unsigned(x, 18446744073709551615));
+    write_low(out, at, n, to_unsigned(x));
 }
 
 // Every word of ws.
@@ -121,7 +112,7 @@ pub fn write_words(out: &mut [u8], at: usize, ws: &[i32])
     let mut i: usize = 0;
     while i < n {
         let x = ws[i];
-        write_word(out, at + 4 * i, x);
+        write_signed(out, at + 4 * i, 4, x as i64);
         i = i + 1;
     }
 }
@@ -134,7 +125,7 @@ pub fn write_costs(out: &mut [u8], at: usize, costs: &[i64], k: usize)
     let mut i: usize = 0;
     while i < k {
         let x = costs[i];
-        write_cost(out, at + 8 * i, x);
+        write_signed(out, at + 8 * i, 8, x);
         i = i + 1;
     }
 }
@@ -152,47 +143,6 @@ pub fn write_bytes(out: &mut [u8], at: usize, src: &[u8], n: usize)
 }
 
 // ---- comparing
-
-// Are the n bytes from index `at` on the n low bytes of x?
-fn same_low(r: &[u8], at: usize, n: usize, x: u64) -> bool
-    requires { ⌜ at + n ≤ length (now r) ⌝ }
-    ensures { λ q. ⌜ q ≡ same (take n (drop at (now (r .entry)))) (bytes n x) ⌝ }
-{
-    let mut y = x;
-    let mut i: usize = 0;
-    while i < n {
-        if wide(r[at + i]) != y % 256 {
-            return false;
-        }
-        y = y / 256;
-        i = i + 1;
-    }
-    true
-}
-
-// Are the eight bytes from index `at` on those of the cost x?
-fn same_cost(r: &[u8], at: usize, x: i64) -> bool
-    requires { ⌜ at + 8 ≤ length (now r) ⌝ }
-    ensures { λ q. ⌜ q ≡ same (take 8 (drop at (now (r .entry)))) (signedBytes 8 x) ⌝ }
-{
-    same_low(r, at, 8, to_unsigned(x, 18446744073709551615))
-}
-
-// Are the bytes from index `at` on those of the first k costs?
-pub fn same_costs(r: &[u8], at: usize, costs: &[i64], k: usize) -> bool
-    requires { ⌜ (at + 8 * k ≤ length (now r)) × (k ≤ length (now costs)) ⌝ }
-    ensures { λ q. ⌜ q ≡ same (take (8 * k) (drop at (now (r .entry)))) (forEach (signedBytes 8) (take k (now (costs .entry)))) ⌝ }
-{
-    let mut i: usize = 0;
-    while i < k {
-        let x = costs[i];
-        if !same_cost(r, at + 8 * i, x) {
-            return false;
-        }
-        i = i + 1;
-    }
-    true
-}
 
 // Are the bytes from index `at` on the first n of src?
 pub fn same_bytes(r: &[u8], at: usize, src: &[u8], n: usize) -> bool

@@ -87,11 +87,7 @@ pub extern "C" fn kbest_show(filed: &[u8], j: usize, offset: &mut usize, size: &
     ensures { λ _. ⌜ (take (now (size .exit)) (drop (now (offset .exit)) (now (filed .entry))) ≡ shown (now (filed .entry)) j) × (now (offset .exit) ≡ shownOffset (now (filed .entry)) j) × (now (size .exit) ≡ shownLength (now (filed .entry)) j) ⌝ }
 {
     let a = accept::accept(filed);
-    if a.k <= j {
-        *offset = 0;
-        *size = 0;
-        return;
-    }
-    *offset = 12 + 4 * record::carried_length(filed) + 8 * a.k + j * a.s;
-    *size = a.s;
+    let p = place::locate(filed, a.s, a.k, j);
+    *offset = p.from;
+    *size = p.size;
 }

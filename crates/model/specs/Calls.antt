@@ -13,7 +13,7 @@ use Rattle.model.specs.Questions.{Question, firstNo, andThen, bookNumber
 use Rattle.model.specs.Policy.{Policy, isPolicy}
 use Rattle.model.specs.Path.{policyCost}
 use Rattle.model.specs.Order.{ranking, rankingCosts}
-use Rattle.model.specs.Record.{recordBytes, carriedCount, carriedBook, listStart, askedNumber, acceptNumber}
+use Rattle.model.specs.Record.{recordBytes, carriedCount, carriedBook, planStart, askedNumber, acceptNumber}
 
 -- what goes with the number 0, and what with any other
 abbrev pub ifAccepted : {A : Type 0} → ℕ → A → A → A
@@ -103,8 +103,7 @@ acceptCount bs = ifAccepted (acceptNumber bs) (carriedCount bs) 0
 
 unfoldable pub shown : List ℕ → ℕ → List ℕ
 shown bs j =
-    cond (ltb j (acceptCount bs))
-    (take (acceptStates bs) (drop (listStart bs + 8 * acceptCount bs + j * acceptStates bs) bs)) []
+    cond (ltb j (acceptCount bs)) (take (acceptStates bs) (drop (planStart bs (acceptStates bs) (acceptCount bs) j) bs)) []
 
 -- ---- power: "D^e for every D from 1 to 100 and e from 0 to 8"; "a lookup for any other D or e gives 0"
 

@@ -39,6 +39,10 @@ carriedBook bs = wordsOf (carriedLength bs) (drop 12 bs)
 unfoldable pub listStart : List ℕ → ℕ
 listStart bs = 12 + 4 * carriedLength bs
 
+-- where plan j begins, in bytes that list k plans of s bytes
+abbrev pub planStart : List ℕ → ℕ → ℕ → ℕ → ℕ
+planStart bs s k j = listStart bs + 8 * k + j * s
+
 -- ---- the questions
 
 -- 14: "is K allowed?"

@@ -1,3 +1,1 @@
-pub mod Title
-pub mod Part
 pub mod Whole

@@ -4,10 +4,9 @@ use mathlib.Core.Path.{_≡_, refl, ap, _∙_}
 use mathlib.Core.List.{List, _++_}
 use Prim.Native.Nat.{ℕ, zero, suc, _+_, _-_, _/_, _%_, _≤_, _<_}
 use native.Mathlib.Nat.{zero-add}
-use native.Mathlib.Omega.{arith}
 use borrow.Author.Tests.{le-leb, lt-leb, eq-eqb, ne-eqb}
 use lib.IntN.{ℤ}
-use lib.ListN.{length, take, drop, length-append}
+use lib.ListN.{length, take, drop}
 use lib.Seq.{take-at}
 use Rattle.model.specs.Bytes.{fromBytes, wordsOf}
 use Rattle.model.specs.Model.{Words, scale, horizon}
@@ -20,17 +19,12 @@ use Rattle.power.proofs.Range.{power-is}
 use Rattle.accepted.specs.Facts.{accepted}
 use Rattle.bytes_io.proofs.Numbers.{length-words}
 use Rattle.bytes_io.proofs.Parts.{written-front}
-use Rattle.text.specs.Text.{Appended, decimal-long}
+use Rattle.text.specs.Text.{Appended}
 use Rattle.text.proofs.Steps.{spoken}
-use Rattle.page.specs.Lines.{titleText}
+use Rattle.page_lines.specs.Lines.{titleText}
 use Rattle.page.specs.Pages.{pageOfRead, page-is, pageLength, pageSlice}
 
--- ---- the list
-
-pub title-long : (n k d : ℕ) → length (titleText n k d) ≤ 80
-title-long n k d =
-    rw (length-append, length-append, length-append, length-append, length-append)
-    (omega (arith, decimal-long n, decimal-long k, decimal-long d))
+-- ---- the title
 
 pub title-is : (ws : Words) (k n d h : ℕ) → bookNumber ws ≡ 0 → n ≡ length (ranking ws k) → d ≡ scale ws → h ≡ horizon ws
     → titleText n k (powerOf d h) ≡ titleLine ws k

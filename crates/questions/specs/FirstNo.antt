@@ -6,7 +6,6 @@ use mathlib.Core.List.{List, [], _∷_, _++_}
 use Prim.Native.Nat.{ℕ, zero, suc, _+_, _<_}
 use native.Mathlib.Omega.{arith}
 use Rattle.model.specs.Questions.{Question, firstNo, andThen}
-use Rattle.model.specs.Calls.{ifAccepted}
 
 -- every question of a list is answered yes
 abbrev pub AllYes : {A : Type 0} → List (Question A) → A → Type 0
@@ -55,7 +54,7 @@ module _ {A : Type 0} (x : A) where
       go true a ih = passes q (qs ++ rs) a ∙ ih ∙ ap (λ (n : ℕ). andThen n (firstNo rs x)) (sym (passes q qs a))
       go false a ih = fails q (qs ++ rs) a ∙ big (q .number) (h .0) ∙ ap (λ (n : ℕ). andThen n (firstNo rs x)) (sym (fails q qs a))
 
--- ---- runs of questions, and what goes with their number
+-- ---- runs of questions
 
 pub then-no : (n m : ℕ) → (n ≡ 0 → ⊥) → andThen n m ≡ n
 then-no zero m h = absurd (h refl)
@@ -67,10 +66,3 @@ then-yes n m e = rw e
 pub then-zero : (n m : ℕ) → andThen n m ≡ 0 → (n ≡ 0) × (m ≡ 0)
 then-zero zero m e = (refl, e)
 then-zero (suc n) m e = absurd (omega arith)
-
-pub refused : {A : Type 0} (n : ℕ) (a b : A) → (n ≡ 0 → ⊥) → ifAccepted n a b ≡ b
-refused zero a b h = absurd (h refl)
-refused (suc n) a b h = refl
-
-pub accepted : {A : Type 0} (n : ℕ) (a b : A) → n ≡ 0 → ifAccepted n a b ≡ a
-accepted n a b e = rw e

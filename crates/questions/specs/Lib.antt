@@ -1,4 +1,5 @@
 pub mod Ranges
 pub mod FirstNo
+pub mod Answers
 pub mod Stages
 pub mod Sizes

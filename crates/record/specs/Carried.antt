@@ -1,7 +1,7 @@
 -- What the head of a record carries is what was written, and the head that is written for what bytes carry is those bytes.
 -- Assumes nothing.
 use mathlib.Core.Path.{_≡_, refl, sym, ap, ap₂, _∙_}
-use mathlib.Core.List.{List, [], _∷_, _++_}
+use mathlib.Core.List.{List, _++_}
 use Prim.Native.Nat.{ℕ, zero, suc, _+_, _*_, _^_, _≤_, _<_}
 use native.Mathlib.Omega.{arith}
 use lib.Signed.{mag}
@@ -11,21 +11,10 @@ use Rattle.model.specs.Lists.{forEach}
 use Rattle.model.specs.Bytes.{bytes, signedBytes, fromBytes, wordsOf}
 use Rattle.model.specs.Model.{Words}
 use Rattle.model.specs.Record.{carriedLength, carriedK, carriedCount, carriedBook}
-use Rattle.laws.specs.Members.{Every, every-in, in-every}
-use Rattle.laws.specs.Sorting.{in-take}
-use Rattle.bytes_io.proofs.Numbers.{Bytes, length-words, read-bytes, bytes-read, signed-read, read-words}
+use Rattle.laws.specs.Members.{Every}
+use Rattle.bytes_io.proofs.Numbers.{Bytes, bytes-take, bytes-drop, length-words, read-bytes, bytes-read, signed-read, read-words}
 use Rattle.record.specs.Lengths.{headBytes}
 use Rattle.record.specs.Passed.{RecordHead}
-
--- ---- parts of a list of bytes
-
-bytes-take : (n : ℕ) (bs : List ℕ) → Bytes bs → Bytes (take n bs)
-bytes-take n bs h = in-every (λ b. b < 256) (take n bs) (λ b i. every-in (λ b. b < 256) bs h b (in-take n b bs i))
-
-bytes-drop : (n : ℕ) (bs : List ℕ) → Bytes bs → Bytes (drop n bs)
-bytes-drop zero bs h = h
-bytes-drop (suc n) [] h = h
-bytes-drop (suc n) (b ∷ bs) h = bytes-drop n bs (h .1)
 
 -- ---- from what was written
 

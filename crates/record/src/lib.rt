@@ -1,39 +1,39 @@
-// The filed record: its bytes written, its questions 19 to 21, and a policy shown. The ranking comes in two arrays that the caller lends.
+// The filed record: its bytes written, and its questions 19 to 21.
 ghost use mathlib.Core.Path.{_≡_};
-ghost use mathlib.Core.List.{_++_};
 ghost use Prim.Native.Nat.{_+_, _*_, _<_, _≤_};
 ghost use lib.ListN.{length, take, drop};
-ghost use Rattle.model.specs.Lists.{forEach, same};
-ghost use Rattle.model.specs.Bytes.{signedBytes};
+ghost use Rattle.model.specs.Lists.{same};
 ghost use Rattle.model.specs.Model.{stateCount};
 ghost use Rattle.model.specs.Questions.{firstNo};
 ghost use Rattle.model.specs.Record.{recordBytes, carriedLength, carriedK, carriedCount, carriedBook};
-ghost use Rattle.model.specs.Record.{headQuestions, tailQuestions, acceptNumber};
-ghost use Rattle.model.specs.Calls.{over, acceptStates, acceptCount, shown};
+ghost use Rattle.model.specs.Record.{headQuestions, tailQuestions};
+ghost use Rattle.model.specs.Calls.{over};
 ghost use Rattle.asked.specs.Asked.{Asked};
 ghost use Rattle.bytes_io.specs.Slices.{written};
-ghost use Rattle.record.specs.Listed.{Listed};
+ghost use Rattle.record.specs.Listed.{Held, listLength, bytesOf, Listed};
 ghost use Rattle.record.specs.Lengths.{headBytes};
 ghost use Rattle.record.specs.Passed.{RecordHead, sizesFit};
 
-// ---- where the list and the book are put
-
-pub fn no_costs() -> [i64; 64]
-    ensures { λ r. ⌜ length r ≡ 64 ⌝ }
-{
-    [0; 64]
+// The ranked list of a book by value: the first n policies, each of s bytes, and their costs.
+pub struct Listing {
+    pub n: usize,
+    pub s: usize,
+    pub costs: [i64; 64],
+    pub plans: [u8; 4096],
 }
 
-pub fn no_plans() -> [u8; 4096]
-    ensures { λ r. ⌜ length r ≡ 4096 ⌝ }
-{
-    [0; 4096]
-}
+// ---- where the book and the bytes of a list are put
 
 pub fn no_book() -> [i32; 4172]
     ensures { λ r. ⌜ length r ≡ 4172 ⌝ }
 {
     [0; 4172]
+}
+
+fn no_list() -> [u8; 4608]
+    ensures { λ r. ⌜ length r ≡ 4608 ⌝ }
+{
+    [0; 4608]
 }
 
 // ---- writing
@@ -49,30 +49,22 @@ fn put_head(b: &[i32], k: usize, n: usize, out: &mut [u8])
     bytes_io::write_words(out, 12, b);
 }
 
-// The first n costs, then the first n policies of s bytes.
-fn put_list(n: usize, s: usize, costs: &[i64], plans: &[u8], at: usize, out: &mut [u8])
-    requires { ⌜ (at + (8 * n + n * s) ≤ length (now out)) × (n ≤ length (now costs)) × (n * s ≤ length (now plans)) ⌝ }
-    ensures { λ _. ⌜ now (out .exit) ≡ written (now (out .entry)) at (8 * n + n * s) (forEach (signedBytes 8) (take n (now (costs .entry))) ++ take (n * s) (now (plans .entry))) ⌝ }
+// The costs, then the policies, from index `at` on.
+fn put_list(l: Listing, at: usize, out: &mut [u8])
+    requires { ⌜ Held l × (at + listLength l ≤ length (now out)) ⌝ }
+    ensures { λ _. ⌜ now (out .exit) ≡ written (now (out .entry)) at (listLength l) (bytesOf l) ⌝ }
 {
-    bytes_io::write_costs(out, at, costs, n);
-    bytes_io::write_bytes(out, at + 8 * n, plans, n * s);
+    bytes_io::write_costs(out, at, &l.costs, l.n);
+    bytes_io::write_bytes(out, at + 8 * l.n, &l.plans, l.n * l.s);
 }
 
-// The record of book b and count k, to the front of `out`. The arrays hold the ranking: n costs, and n policies of s bytes.
-pub fn put_record(
-    b: &[i32],
-    k: usize,
-    n: usize,
-    s: usize,
-    costs: &[i64],
-    plans: &[u8],
-    out: &mut [u8],
-)
-    requires { ⌜ Asked (now b) k × (s ≡ stateCount (now b)) × Listed (now b) k n (now costs) (now plans) × (length (recordBytes (now b) k) ≤ length (now out)) ⌝ }
+// The record of book b and count k, whose list is l, to the front of `out`.
+pub fn put_record(b: &[i32], k: usize, l: Listing, out: &mut [u8])
+    requires { ⌜ Asked (now b) k × Listed (now b) k l × (length (recordBytes (now b) k) ≤ length (now out)) ⌝ }
     ensures { λ _. ⌜ now (out .exit) ≡ over (recordBytes (now (b .entry)) k) (now (out .entry)) ⌝ }
 {
-    put_head(b, k, n, out);
-    put_list(n, s, costs, plans, 12 + 4 * b.len(), out);
+    put_head(b, k, l.n, out);
+    put_list(l, 12 + 4 * b.len(), out);
 }
 
 // ---- what a record carries
@@ -145,46 +137,29 @@ fn sizes_fit(r: &[u8], s: usize) -> bool
     r.len() == 12 + 4 * carried_length(r) + 8 * k + k * s
 }
 
-// Are the bytes from index `at` on the first n costs and the first n policies of s bytes?
-fn same_list(r: &[u8], at: usize, s: usize, n: usize, costs: &[i64], plans: &[u8]) -> bool
-    requires { ⌜ (length (now r) ≡ at + 8 * n + n * s) × (n ≤ length (now costs)) × (n * s ≤ length (now plans)) ⌝ }
-    ensures { λ q. ⌜ q ≡ same (drop at (now (r .entry))) (forEach (signedBytes 8) (take n (now (costs .entry))) ++ take (n * s) (now (plans .entry))) ⌝ }
+// Are the bytes from index `at` on those of the list?
+fn same_list(r: &[u8], at: usize, l: Listing) -> bool
+    requires { ⌜ Held l × (length (now r) ≡ at + listLength l) ⌝ }
+    ensures { λ q. ⌜ q ≡ same (drop at (now (r .entry))) (bytesOf l) ⌝ }
 {
-    if !bytes_io::same_costs(r, at, costs, n) {
-        return false;
-    }
-    bytes_io::same_bytes(r, at + 8 * n, plans, n * s)
+    let mut list = no_list();
+    put_list(l, 0, &mut list);
+    bytes_io::same_bytes(r, at, &list, 8 * l.n + l.n * l.s)
 }
 
-// 20, then 21: are costs, plans and k those of the arrays, which hold the ranking?
-pub fn tail_number(r: &[u8], s: usize, n: usize, costs: &[i64], plans: &[u8]) -> u32
-    requires { ⌜ (firstNo headQuestions (now r) ≡ 0) × Asked (carriedBook (now r)) (carriedK (now r)) × (s ≡ stateCount (carriedBook (now r))) × Listed (carriedBook (now r)) (carriedK (now r)) n (now costs) (now plans) ⌝ }
+// 20, then 21: are costs, plans and k those of the list of the carried book and count?
+pub fn tail_number(r: &[u8], l: Listing) -> u32
+    requires { ⌜ (firstNo headQuestions (now r) ≡ 0) × Asked (carriedBook (now r)) (carriedK (now r)) × Listed (carriedBook (now r)) (carriedK (now r)) l ⌝ }
     ensures { λ x. ⌜ x ≡ firstNo tailQuestions (now (r .entry)) ⌝ }
 {
-    if !sizes_fit(r, s) {
+    if !sizes_fit(r, l.s) {
         return 20;
     }
-    let k = carried_count(r);
-    if k != n {
+    if carried_count(r) != l.n {
         return 21;
     }
-    if !same_list(r, 12 + 4 * carried_length(r), s, n, costs, plans) {
+    if !same_list(r, 12 + 4 * carried_length(r), l) {
         return 21;
     }
     0
-}
-
-// ---- showing
-
-// Policy j of an accepted record, which has k policies of s bytes: a part of the record, empty where there is no such policy.
-pub fn shown_part(r: &[u8], s: usize, k: usize, j: usize) -> &[u8]
-    requires { ⌜ (acceptNumber (now r) ≡ 0) × (s ≡ acceptStates (now r)) × (k ≡ acceptCount (now r)) ⌝ }
-    ensures { λ p. ⌜ now p ≡ shown (now (r .entry)) j ⌝ }
-{
-    if k <= j {
-        return &r[0..0];
-    }
-    let from = 12 + 4 * carried_length(r) + 8 * k + j * s;
-    let to = from + s;
-    &r[from..to]
 }

@@ -5,9 +5,10 @@ use Prim.Native.Nat.{ℕ, _-_}
 use native.Mathlib.Omega.{arith}
 use lib.ListN.{take}
 use Rattle.model.specs.Questions.{firstNo}
-use Rattle.model.specs.Record.{carriedLength, headQuestions}
-use Rattle.record.specs.Passed.{RecordHead, head-says}
-use Rattle.accept.proofs.Answers.{refuses, head-no}
+use Rattle.model.specs.Record.{carriedLength, headQuestions, acceptNumber}
+use Rattle.model.specs.Calls.{acceptStates, acceptCount}
+use Rattle.questions.specs.Answers.{stops, leaves}
+use Rattle.record.specs.Passed.{head-says}
 use borrow.Author.Needs.{needs}
 use Rattle.accept.proofs.accept.Statement.{statement}
 use Rattle.accept.proofs.accept.Tie as tie
@@ -19,9 +20,11 @@ head-number-requires : tie.Need-head-number-requires
 head-number-requires c κs = search needs
 
 returns : tie.Need-returns
+unfolding acceptNumber acceptStates acceptCount
 returns c =
-    let e = c .before .head-number .ensures in
-    refuses _ _ (e ∙ head-no _ (λ z. c .if1 .taken (e ∙ z))) (c .if1 .taken)
+    let h = c .if1 .taken in
+    let e = stops (c .before .head-number .ensures) _ h in
+    (e, leaves e h _ _, leaves e h _ _)
 
 no-book-requires : tie.Need-no-book-requires
 no-book-requires c κs = search needs

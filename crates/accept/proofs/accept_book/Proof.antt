@@ -1,13 +1,16 @@
--- Each return carries the first question that is answered no.
+-- Each return carries the first question that is answered no, and 0 for both figures; the last the figures of the list.
 -- Assumes nothing.
-use mathlib.Core.Path.{_≡_, sym, ap, ap₂, _∙_}
-use native.Mathlib.Omega.{arith}
-use Rattle.model.specs.Model.{stateCount}
+use mathlib.Core.Path.{_≡_, sym, ap₂, _∙_}
+use Prim.Native.Nat.{ℕ}
+use borrow.Author.Needs.{needs}
+use Rattle.model.specs.Model.{Words}
 use Rattle.model.specs.Record.{carriedK, carriedBook, askedNumber, acceptNumber}
+use Rattle.model.specs.Calls.{acceptStates, acceptCount}
+use Rattle.questions.specs.Answers.{stops, goes-on, leaves, gives}
 use Rattle.asked.specs.Asked.{asked-says}
-use Rattle.index.proofs.Lines.{headed}
-use Rattle.record.specs.Passed.{head-says}
-use Rattle.accept.proofs.Answers.{refuses, asked-no, tail-is, accepts}
+use Rattle.record.specs.declared.Listing.{Listing}
+use Rattle.record.specs.Listed.{Listed}
+use Rattle.record.specs.Passed.{head-says, accept-says}
 use Rattle.accept.proofs.accept_book.Statement.{statement}
 use Rattle.accept.proofs.accept_book.Tie as tie
 
@@ -15,7 +18,7 @@ carried-k-requires : tie.Need-carried-k-requires
 carried-k-requires c κs = head-says _ (c .before .pre .0) .long
 
 asked-number-requires : tie.Need-asked-number-requires
-asked-number-requires c κs = tt
+asked-number-requires c κs = search needs
 
 -- the answer to 1 to 14 is that for what is carried
 asked-is : (c : tie.After-asked-number) →
@@ -29,37 +32,45 @@ passed : (c : tie.Else1) →
 passed c = sym (asked-is (c .before)) ∙ c .if1 .left
 
 returns : tie.Need-returns
+unfolding acceptNumber acceptStates acceptCount
 returns c =
-    let s = c .before .before .before .before in
-    let e = asked-is (c .before) in
-    refuses _ _ (e ∙ asked-no (s .args .r .now) (s .pre .0) (λ z. c .if1 .taken (e ∙ z))) (c .if1 .taken)
+    let h = c .if1 .taken in
+    let e = goes-on (c .before .before .before .before .pre .0) (stops (asked-is (c .before)) _ h) in
+    (e, leaves e h _ _, leaves e h _ _)
 
-read-sizes-requires : tie.Need-read-sizes-requires
-read-sizes-requires c κs =
-    headed _ (asked-says _ _ (sym (c .before .asked-number .ensures) ∙ c .if1 .left) .ok)
+list-requires : tie.Need-list-requires
+list-requires c κs = asked-says _ _ (sym (c .before .asked-number .ensures) ∙ c .if1 .left)
 
-states : (c : tie.After-read-sizes) → c .read-sizes .result .s ≡ stateCount (carriedBook (c .before .before .before .before .before .args .r .now))
-states c = c .read-sizes .ensures .s-is ∙ ap stateCount (c .before .before .before .before .before .pre .1)
+-- the list is that of what is carried
+carried : {b b′ : Words} {k k′ : ℕ} {l : Listing} → b ≡ b′ → k ≡ k′ → Listed b k l → Listed b′ k′ l
+carried eb ek h = rw (← eb, ← ek) h
 
-list-number-requires : tie.Need-list-number-requires
-list-number-requires c κs =
-    let s = c .before .before .before .before .before in
-    (s .pre .0, s .pre .1, c .before .before .before .carried-k .ensures .0, states c, asked-says _ _ (passed (c .before)))
+listed : (c : tie.After-list) →
+    let r = c .before .before .before .before .before .args .r .now in
+    Listed (carriedBook r) (carriedK r) (c .list .result)
+listed c = carried (c .before .before .before .before .before .pre .1) (c .before .before .before .carried-k .ensures .0) (c .list .ensures)
 
-last-is : (c : tie.After-list-number) → c .list-number .result ≡ acceptNumber (c .before .before .before .before .before .before .args .r .now)
+tail-number-requires : tie.Need-tail-number-requires
+tail-number-requires c κs = (c .before .before .before .before .before .pre .0, asked-says _ _ (passed (c .before)), listed c)
+
+last-is : (c : tie.After-tail-number) → c .tail-number .result ≡ acceptNumber (c .before .before .before .before .before .before .args .r .now)
+unfolding acceptNumber
 last-is c =
-    let s = c .before .before .before .before .before .before in
-    c .list-number .ensures ∙ tail-is (s .args .r .now) (s .pre .0) (passed (c .before .before))
+    goes-on (c .before .before .before .before .before .before .pre .0) (goes-on (passed (c .before .before)) (c .tail-number .ensures))
 
 returns-2 : tie.Need-returns-2
-returns-2 c = refuses _ _ (last-is (c .before)) (c .if2 .taken)
-
-carried-count-requires : tie.Need-carried-count-requires
-carried-count-requires c κs = head-says _ (c .before .before .before .before .before .before .before .pre .0) .long
+unfolding acceptStates acceptCount
+returns-2 c =
+    let h = c .if2 .taken in
+    let e = last-is (c .before) in
+    (e, leaves e h _ _, leaves e h _ _)
 
 returns-3 : tie.Need-returns-3
+unfolding acceptStates acceptCount
 returns-3 c =
-    accepts _ (sym (c .before .if2 .left) ∙ last-is (c .before .before)) (states (c .before .before .before)) (c .carried-count .ensures .0)
+    let e = sym (c .if2 .left) ∙ last-is (c .before) in
+    let l = listed (c .before .before) in
+    (e, gives (sym e) 0 (l .states), gives (sym e) 0 (l .count ∙ sym (accept-says _ (sym e) .ranked .count)))
 
 pub accept-book-spec : {M : Type 1} → statement M
 accept-book-spec =
@@ -68,8 +79,7 @@ accept-book-spec =
     carried-k-requires
     asked-number-requires
     returns
-    read-sizes-requires
-    list-number-requires
+    list-requires
+    tail-number-requires
     returns-2
-    carried-count-requires
     returns-3)

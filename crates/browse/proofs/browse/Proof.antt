@@ -36,11 +36,11 @@ use denote.Triple.Call.{calls-at}
 use denote.Triple.Entry.{Vals, onEntry}
 use denote.Triple.Spec.{Meets, tripleOf}
 use denote.Triple.Table.{entered, cited}
-use denote.Triple.Walked.{says, Stays, stay-none, stay-none-slice, walkOf, goes-none, goes-none-slice, Walks, ends-at, walked, walk-meets}
+use denote.Triple.Walked.{says, Stays, stay-none, stay-none-slice, walkOf, goes-none, goes-none-slice, ends-at, walked, walk-meets}
 use denote.Exit.{yes}
 use denote.Triple.Clauses.{ensured, lasts}
 use Rattle.model.specs.Calls.{acceptStates, acceptCount, shown}
-use Rattle.browse.specs.Browsed.{browsed, browsed-shown}
+use Rattle.place.specs.Place.{browsed, browsed-shown}
 use Rattle.browse.specs.declared.Browser.{Browser}
 use Rattle.browse.proofs.Browser as T
 use Rattle.browse.proofs.Browser.Laws as T′
@@ -60,7 +60,7 @@ use Rattle.browse.proofs.browse.Code as code
 
 -- a browser of the slice r with the figures of accepting shows what is to be shown of r
 as-shown : (x r : List ℕ) (s k j : ℕ) → x ≡ r → s ≡ acceptStates r → k ≡ acceptCount r → browsed x s k j ≡ shown r j
-as-shown x r s k j ex es ek = rw (ex, es, ek) (browsed-shown r j)
+as-shown x r s k j ex es ek = rw ex (browsed-shown r j es ek)
 
 abbrev stayed : Stays (browse.ended .signature .params) (browse.ended .kept)
 stayed = (stay-none-slice (0 ∷ []) tt (plain (λ _. u8)) yes, (stay-none (λ _. usize) yes, tt))
@@ -191,17 +191,6 @@ module _ {M : Type 1} (𝓤 : URA M) (H : Heap 𝓤) (A : Atoms 𝓤) (W : Given
         move ! (9 ∷ 10 ∷ []) $ free1 ! $ move ! (7 ∷ 8 ∷ []) $ free1 ! $ move ! (5 ∷ 6 ∷ []) $ free1 ! $ move ! (3 ∷ 4 ∷ []) $ free1 ! $ free0 ! $
         by ! (exits p u′ (found w p e f))))))))))))))
 
-module _ {M : Type 1} (𝓤 : URA M) (H : Heap 𝓤) (A : Atoms 𝓤) (W : Given 𝓤 H A) (mem : Memory → SProp 𝓤) (run : Routine → Fun 𝓤) where
-  browse-walks : (C : Calls 𝓤 H) (Λ : Loops 𝓤 H) → FmC 𝓤 H (W .laws) C → Triple 𝓤 (C #browse·open) (Open 𝓤 H A mem run)
-      → Triple 𝓤 (C #browse·plan) (Plan 𝓤 H A mem run)
-      → Walks 𝓤 H A browse.ended stayed (WpFn 𝓤 H C Λ code.function) (browse.clauses 𝓤 H A mem run)
-  browse-walks C Λ fm known-open known-plan =
-      walked 𝓤 H A browse.ended stayed (browse.clauses 𝓤 H A mem run) (WpFn 𝓤 H C Λ code.function)
-      (λ κs. (slice-vals, (uint-vals w64, tt))) (λ κs. (shr-slice-tells (named 0) (κs .0) u8, (uint-tells w64, tt)))
-      (λ κs qs bounds a g are.
-      via 𝓤 _ (fst∗ 𝓤 _ (emp 𝓤))
-      (walk 𝓤 H A W mem run (κs .0) (qs .0) (a .0) (a .1 .0) (are .1 .0 .1) C Λ fm known-open known-plan (are .0)))
-
 browse-meets : {M : Type 1} (𝓤 : URA M) (H : Heap 𝓤) (A : Atoms 𝓤) (W : Given 𝓤 H A) (mem : Memory → SProp 𝓤) (run : Routine → Fun 𝓤)
     (𝓣 : Tables 𝓤 H) → Triple 𝓤 (𝓣 .C #browse·open) (Open 𝓤 H A mem run) → Triple 𝓤 (𝓣 .C #browse·plan) (Plan 𝓤 H A mem run)
     → Meets 𝓤 H A browse.signature (WpFn 𝓤 H (𝓣 .C) (𝓣 .Λ) code.function) (browse.spec 𝓤 H A mem run)
@@ -209,7 +198,11 @@ browse-meets 𝓤 H A W mem run 𝓣 known-open known-plan =
     walk-meets 𝓤 H A browse.ended stayed W
     (goes-none-slice 𝓤 H A W 1 (0 ∷ []) tt (plain (λ _. u8)) yes, (goes-none 𝓤 H A W 1 (λ _. usize) yes (λ κs x f. refl), tt))
     (browse.clauses 𝓤 H A mem run) (WpFn 𝓤 H (𝓣 .C) (𝓣 .Λ) code.function) (WpFn-mono 𝓤 H (W .laws) 𝓣 code.function)
-    (browse-walks 𝓤 H A W mem run (𝓣 .C) (𝓣 .Λ) (fmOf 𝓤 H (W .laws) 𝓣) known-open known-plan)
+    (walked 𝓤 H A browse.ended stayed (browse.clauses 𝓤 H A mem run) (WpFn 𝓤 H (𝓣 .C) (𝓣 .Λ) code.function)
+    (λ κs. (slice-vals, (uint-vals w64, tt))) (λ κs. (shr-slice-tells (named 0) (κs .0) u8, (uint-tells w64, tt)))
+    (λ κs qs bounds a g are.
+    via 𝓤 _ (fst∗ 𝓤 _ (emp 𝓤))
+    (walk 𝓤 H A W mem run (κs .0) (qs .0) (a .0) (a .1 .0) (are .1 .0 .1) (𝓣 .C) (𝓣 .Λ) (fmOf 𝓤 H (W .laws) 𝓣) known-open known-plan (are .0))))
 
 pub browse-spec : {M : Type 1} → stated.statement M
 unfolding code.routine tablesOf

@@ -1,4 +1,4 @@
--- `plan` meets its contract, by a walk of its MIR: the struct is taken apart, and `part` is called on the slice and the numbers. Of `part` the
+-- `plan` meets its contract, by a walk of its MIR: the struct is taken apart, and `place::part` is called on the slice and the numbers. Of it the
 -- proof knows only that it meets its contract. The struct is Copy: what it owns is had twice, one copy is kept whole for the exit, and of the
 -- other what the slice owns goes to the callee, beside the lifetime's token, which comes back. What the result owns is at the same lifetime.
 -- Assumes nothing.
@@ -39,17 +39,17 @@ use denote.Triple.Call.{calls-at}
 use denote.Triple.Entry.{Vals, onEntry}
 use denote.Triple.Spec.{Meets, tripleOf}
 use denote.Triple.Table.{entered, cited}
-use denote.Triple.Walked.{says, Stays, stay-none, walkOf, goes-none, Walks, ends-at, walked, walk-meets}
+use denote.Triple.Walked.{says, Stays, stay-none, walkOf, goes-none, ends-at, walked, walk-meets}
 use denote.Exit.{yes}
 use denote.Triple.Clauses.{ensured, lasts}
-use Rattle.browse.specs.Browsed.{browsed}
+use Rattle.place.specs.Place.{browsed}
+use Rattle.place.proofs.part as part
+use Rattle.place.proofs.part.Symbol as part-def
+use Rattle.place.proofs.part.Symbol.{name as #place·part}
+use Rattle.place.proofs.part.Met as part-thm
 use Rattle.browse.specs.declared.Browser.{Browser}
 use Rattle.browse.proofs.Browser.Laws as T′
 use Rattle.browse.proofs.Held.{row, kind, laws, fields, typed}
-use Rattle.browse.proofs.part as part
-use Rattle.browse.proofs.part.Symbol as part-def
-use Rattle.browse.proofs.part.Symbol.{name as #browse·part}
-use Rattle.browse.proofs.part.Met as part-thm
 use Rattle.browse.proofs.plan.Key.{name as #browse·plan}
 use Rattle.browse.proofs.plan as plan
 use Rattle.browse.proofs.plan.Statement as stated
@@ -143,7 +143,7 @@ module _ {M : Type 1} (𝓤 : URA M) (H : Heap 𝓤) (A : Atoms 𝓤) (W : Given
       move ! (1 ∷ []) $ frame ! $ nothing ! $ owned ! usize (Is usize) (uint-makes 𝓤 H A W w64) j _ (refl, ok) $ fjoin ! $
       move ! (2 ∷ 0 ∷ []) $ fjoin ! $ frame ! $ done !
 
-  module _ (C : Calls 𝓤 H) (Λ : Loops 𝓤 H) (fm : FmC 𝓤 H (W .laws) C) (known : Triple 𝓤 (C #browse·part) (Part 𝓤 H A mem run)) where
+  module _ (C : Calls 𝓤 H) (Λ : Loops 𝓤 H) (fm : FmC 𝓤 H (W .laws) C) (known : Triple 𝓤 (C #place·part) (Part 𝓤 H A mem run)) where
     walk : Holds (hasTy (T′.mir (named 0)) mach) × WT mach → ent 𝓤 Entry (WpFn 𝓤 H C Λ code.function (mach ∷ vint w64 j ∷ []) Post)
     walk wt =
         qed W (raw Entry ∷ []) ∵ enter ! C Λ code.function (mach ∷ vint w64 j ∷ []) _ $
@@ -170,24 +170,18 @@ module _ {M : Type 1} (𝓤 : URA M) (H : Heap 𝓤) (A : Atoms 𝓤) (W : Given
         move ! (13 ∷ 14 ∷ []) $ free1 ! $ move ! (11 ∷ 12 ∷ []) $ free1 ! $ move ! (9 ∷ 10 ∷ []) $ free1 ! $ move ! (7 ∷ 8 ∷ []) $ free1 ! $
         move ! (5 ∷ 6 ∷ []) $ free1 ! $ move ! (3 ∷ 4 ∷ []) $ free1 ! $ free0 ! $ by ! (exits p u e)))))))))))
 
-module _ {M : Type 1} (𝓤 : URA M) (H : Heap 𝓤) (A : Atoms 𝓤) (W : Given 𝓤 H A) (mem : Memory → SProp 𝓤) (run : Routine → Fun 𝓤) where
-  plan-walks : (C : Calls 𝓤 H) (Λ : Loops 𝓤 H) → FmC 𝓤 H (W .laws) C → Triple 𝓤 (C #browse·part) (Part 𝓤 H A mem run)
-      → Walks 𝓤 H A plan.ended stayed (WpFn 𝓤 H C Λ code.function) (plan.clauses 𝓤 H A mem run)
-  plan-walks C Λ fm known =
-      walked 𝓤 H A plan.ended stayed (plan.clauses 𝓤 H A mem run) (WpFn 𝓤 H C Λ code.function)
-      (λ κs. (LL.vals (kind κs) (laws κs), (uint-vals w64, tt))) (λ κs. (LL.tells (kind κs) (laws κs), (uint-tells w64, tt)))
-      (λ κs qs bounds a g are.
-      via 𝓤 _ (fst∗ 𝓤 _ (emp 𝓤))
-      (walk 𝓤 H A W mem run (κs .0) (qs .0) (a .0) (a .1 .0) (are .1 .0 .1) C Λ fm known (typed 𝓤 H A W κs (a .0) _ (are .0))))
-
 plan-meets : {M : Type 1} (𝓤 : URA M) (H : Heap 𝓤) (A : Atoms 𝓤) (W : Given 𝓤 H A) (mem : Memory → SProp 𝓤) (run : Routine → Fun 𝓤)
-    (𝓣 : Tables 𝓤 H) → Triple 𝓤 (𝓣 .C #browse·part) (Part 𝓤 H A mem run)
+    (𝓣 : Tables 𝓤 H) → Triple 𝓤 (𝓣 .C #place·part) (Part 𝓤 H A mem run)
     → Meets 𝓤 H A plan.signature (WpFn 𝓤 H (𝓣 .C) (𝓣 .Λ) code.function) (plan.spec 𝓤 H A mem run)
 plan-meets 𝓤 H A W mem run 𝓣 known =
     walk-meets 𝓤 H A plan.ended stayed W
     (goes-none 𝓤 H A W 1 row yes (λ κs x f. refl), (goes-none 𝓤 H A W 1 (λ _. usize) yes (λ κs x f. refl), tt))
     (plan.clauses 𝓤 H A mem run) (WpFn 𝓤 H (𝓣 .C) (𝓣 .Λ) code.function) (WpFn-mono 𝓤 H (W .laws) 𝓣 code.function)
-    (plan-walks 𝓤 H A W mem run (𝓣 .C) (𝓣 .Λ) (fmOf 𝓤 H (W .laws) 𝓣) known)
+    (walked 𝓤 H A plan.ended stayed (plan.clauses 𝓤 H A mem run) (WpFn 𝓤 H (𝓣 .C) (𝓣 .Λ) code.function)
+    (λ κs. (LL.vals (kind κs) (laws κs), (uint-vals w64, tt))) (λ κs. (LL.tells (kind κs) (laws κs), (uint-tells w64, tt)))
+    (λ κs qs bounds a g are.
+    via 𝓤 _ (fst∗ 𝓤 _ (emp 𝓤))
+    (walk 𝓤 H A W mem run (κs .0) (qs .0) (a .0) (a .1 .0) (are .1 .0 .1) (𝓣 .C) (𝓣 .Λ) (fmOf 𝓤 H (W .laws) 𝓣) known (typed 𝓤 H A W κs (a .0) _ (are .0)))))
 
 pub plan-spec : {M : Type 1} → stated.statement M
 unfolding code.routine tablesOf
@@ -195,5 +189,5 @@ plan-spec 𝓤 H 𝓜 𝓖 𝓡 =
     entered 𝓤 H (tripleOf 𝓤 H (𝓖 .A) plan.signature (plan.spec 𝓤 H (𝓖 .A) (𝓜 .mem) (𝓡 .run)))
     (tables 𝓤 H 𝓜 𝓡 code.env .C) (tables 𝓤 H 𝓜 𝓡 code.env .Λ) #browse·plan code.function (code.unfolded 𝓤 H 𝓜 𝓡)
     (plan-meets 𝓤 H (𝓖 .A) (givenOf 𝓤 H 𝓜 𝓖) (𝓜 .mem) (𝓡 .run) (tablesOf 𝓤 H 𝓜 (tables 𝓤 H 𝓜 𝓡 code.env))
-    (cited 𝓤 H (Part 𝓤 H (𝓖 .A) (𝓜 .mem) (𝓡 .run)) 𝓜 𝓡 code.env #browse·part part-def.routine code.calls-browse·part
+    (cited 𝓤 H (Part 𝓤 H (𝓖 .A) (𝓜 .mem) (𝓡 .run)) 𝓜 𝓡 code.env #place·part part-def.routine code.calls-place·part
     (part-thm.met 𝓤 H 𝓜 𝓖 𝓡)))

@@ -1,31 +1,28 @@
 -- The words still to be read, written over what stands there now, give the result.
 -- Assumes nothing.
-use mathlib.Core.Path.{_≡_, refl, sym, ap, _∙_}
+use mathlib.Core.Path.{_≡_, sym, ap, subst, _∙_}
 use mathlib.Core.List.{_∷_}
-use Prim.Native.Nat.{_+_, _*_, _-_, _≤_}
-use native.Mathlib.Nat.{add-zero}
+use Prim.Native.Nat.{ℕ, _+_, _*_, _-_}
+use native.Mathlib.Nat.{add-zero, zero-add}
 use native.Mathlib.Omega.{arith}
 use borrow.Author.Needs.{needs}
-use lib.ListN.{length, drop, length-set}
+use lib.ListN.{drop, set}
 use Rattle.model.specs.Bytes.{wordsOf}
 use Rattle.book.proofs.Words.{read32}
-use Rattle.bytes_io.specs.Slices.{written}
-use Rattle.bytes_io.proofs.Parts.{written-front, set-step, written-end}
+use Rattle.bytes_io.proofs.Parts.{Filling, fill-start, fill-one, fill-end, written-front}
 use Rattle.bytes_io.proofs.Numbers.{words-step, length-words}
 use Rattle.bytes_io.proofs.read_words.Statement.{statement}
 use Rattle.bytes_io.proofs.read_words.Tie as tie
 
 abbrev Inv-loop : tie.InvT-loop
-Inv-loop r at n out₀ i₀ out i =
-    (i ≤ n) × (length out ≡ length out₀)
-    × (written out₀ 0 n (wordsOf n (drop at r)) ≡ written out i (n - i) (wordsOf (n - i) (drop (at + 4 * i) r)))
+Inv-loop r at n out₀ i₀ out i = Filling out₀ 0 n (wordsOf n (drop at r)) out i (wordsOf (n - i) (drop (at + 4 * i) r))
 
 abbrev μ-loop : tie.MeasureT-loop
 μ-loop r at n out₀ i₀ out i = n - i
 
 loop-holds : tie.Need-loop-holds Inv-loop μ-loop
 loop-holds c =
-    let z : c .before .args .n - 0 ≡ c .before .args .n = omega arith in (omega arith, refl, rw (z, add-zero))
+    let z : c .before .args .n - 0 ≡ c .before .args .n = omega arith in rw (z, add-zero) (fill-start _ _ _ _)
 
 mul-read-word : tie.Need-mul-read-word Inv-loop μ-loop
 mul-read-word c = search needs
@@ -57,25 +54,24 @@ loop-again c =
     let q = s .at + 4 * (l .i + 1) in
     let ys = wordsOf (s .n - (l .i + 1)) (drop q r) in
     let y = c .read-word in
-    rw (read32 (y .result) (y .ok)) (
-      omega arith,
-      length-set (l .out) (l .i) (y .result) ∙ l .inv .1,
-      l .inv .2
-          ∙ ap (written (l .out) (l .i) (s .n - l .i))
-          (words-step r (l .i) (s .n) p q (omega arith) (omega arith) ∙ ap (λ z. z ∷ ys) (sym (y .ensures)))
-          ∙ set-step (l .out) (l .i) (s .n) (l .i) (l .i + 1) (y .result) ys (omega arith) (omega arith) refl,
-    )
+    rw (read32 (y .result) (y .ok))
+    (subst (λ (k : ℕ). Filling (s .out .now) 0 (s .n) (wordsOf (s .n) (drop (s .at) r)) (set (l .out) k (y .result)) (l .i + 1) ys) (zero-add (l .i))
+    (fill-one _ _ _ _ (omega arith) (l .inv) (y .result) ys (omega arith)
+    (words-step r (l .i) (s .n) p q (omega arith) (omega arith) ∙ ap (λ z. z ∷ ys) (sym (y .ensures)))))
 
 same-length : tie.Need-same-length Inv-loop μ-loop
-same-length c = c .before .loop .inv .1
+same-length c = c .before .loop .inv .long
 
 returns : tie.Need-returns Inv-loop μ-loop
 returns c =
     let l = c .before .loop in
     let s = c .before .before .before .args in
     let r = s .r .now in
-    let e = l .inv .2 ∙ written-end (l .out) (l .i) (s .n) (l .i) (λ n. wordsOf n (drop (s .at + 4 * l .i) r)) (omega arith) refl in
-    (sym e ∙ written-front (s .out .now) (s .n) (wordsOf (s .n) (drop (s .at) r)) (length-words (s .n) (drop (s .at) r)), l .inv .1)
+    let z : s .n - l .i ≡ 0 = omega arith in (
+      fill-end _ _ _ _ (omega arith) (l .inv) (omega arith) (rw z)
+          ∙ written-front (s .out .now) (s .n) (wordsOf (s .n) (drop (s .at) r)) (length-words (s .n) (drop (s .at) r)),
+      l .inv .long,
+    )
 
 pub read-words-spec : {M : Type 1} → statement M
 read-words-spec =

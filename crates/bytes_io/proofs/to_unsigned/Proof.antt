@@ -35,18 +35,19 @@ cast-result c =
     simp (toZ-ofZ (c .before .fits .x), flip c, toZ-ofZ (fit c)) (tt, omega (arith, c .before .fits .x .sfits))
 
 sub-result-2 : tie.Need-sub-result-2
-sub-result-2 c = simp (toZ-ofZ (c .before .fits .x), flip c, toZ-ofZ (fit c)) (c .before .pre)
+sub-result-2 c =
+    simp (toZ-ofZ (c .before .fits .x), flip c, toZ-ofZ (fit c)) (omega (arith, c .before .fits .x .sfits))
 
 returns : tie.Need-returns
 returns c =
-    simp (toZ-ofZ (c .before .fits .x), flip c, toZ-ofZ (fit c)) (complement-neg (c .before .args .most) (c .before .args .x) (negative c))
+    simp (toZ-ofZ (c .before .fits .x), flip c, toZ-ofZ (fit c)) (complement-neg (c .before .args .x) (negative c))
 
 cast-result-2 : tie.Need-cast-result-2
 cast-result-2 c =
     rw (toZ-ofZ (c .before .fits .x)) (plain c, omega (arith, abs-mag (c .before .args .x), c .before .fits .x .sfits))
 
 returns-2 : tie.Need-returns-2
-returns-2 c = rw (toZ-ofZ (c .before .fits .x)) (complement-pos (c .before .args .most) (c .before .args .x) (plain c))
+returns-2 c = rw (toZ-ofZ (c .before .fits .x)) (complement-pos (c .before .args .x) (plain c))
 
 pub to-unsigned-spec : {M : Type 1} → statement M
 to-unsigned-spec =

@@ -1,27 +1,23 @@
 -- The bytes still to be copied, written over what stands there now, give the result.
 -- Assumes nothing.
-use mathlib.Core.Path.{_≡_, refl, sym, ap, _∙_}
-use Prim.Native.Nat.{_+_, _-_, _≤_}
-use native.Mathlib.Nat.{add-zero}
+use mathlib.Core.Path.{_≡_, refl}
+use Prim.Native.Nat.{_+_, _-_}
 use native.Mathlib.Omega.{arith}
 use borrow.Author.Needs.{needs}
-use lib.ListN.{length, take, drop, getD, length-set}
-use Rattle.bytes_io.specs.Slices.{written}
-use Rattle.bytes_io.proofs.Parts.{set-step, written-end, part-step}
+use lib.ListN.{take, drop}
+use Rattle.bytes_io.proofs.Parts.{Filling, fill-start, fill-one, fill-end, part-step}
 use Rattle.bytes_io.proofs.write_bytes.Statement.{statement}
 use Rattle.bytes_io.proofs.write_bytes.Tie as tie
 
 abbrev Inv-loop : tie.InvT-loop
-Inv-loop out₀ at src n i₀ out i =
-    (i ≤ n) × (length out ≡ length out₀)
-    × (written out₀ at n (take n src) ≡ written out (at + i) (n - i) (take (n - i) (drop i src)))
+Inv-loop out₀ at src n i₀ out i = Filling out₀ at n (take n src) out i (take (n - i) (drop i src))
 
 abbrev μ-loop : tie.MeasureT-loop
 μ-loop out₀ at src n i₀ out i = n - i
 
 loop-holds : tie.Need-loop-holds Inv-loop μ-loop
 loop-holds c =
-    let z : c .args .n - 0 ≡ c .args .n = omega arith in (omega arith, refl, rw (z, add-zero))
+    let z : c .args .n - 0 ≡ c .args .n = omega arith in rw z (fill-start _ _ _ _)
 
 shared-slice-read-out : tie.Need-shared-slice-read-out Inv-loop μ-loop
 shared-slice-read-out c = search needs
@@ -42,23 +38,18 @@ loop-again : tie.Need-loop-again Inv-loop μ-loop
 loop-again c =
     let l = c .before .before .loop in
     let s = c .before .before .before .args in
-    let src = s .src .now in (
-      omega arith,
-      length-set (l .out) (s .at + l .i) (getD src (l .i) 0) ∙ l .inv .1,
-      l .inv .2
-          ∙ ap (written (l .out) (s .at + l .i) (s .n - l .i)) (part-step src (l .i) (s .n) (l .i) (l .i + 1) 0 (omega arith) (omega arith) refl)
-          ∙ set-step (l .out) (l .i) (s .n) (s .at + l .i) (s .at + (l .i + 1)) (getD src (l .i) 0) (take (s .n - (l .i + 1)) (drop (l .i + 1) src))
-          (omega arith) (omega arith) (omega arith),
-    )
+    fill-one _ _ _ _ (c .before .before .before .pre .0) (l .inv) _ _ (omega arith)
+    (part-step (s .src .now) (l .i) (s .n) (l .i) (l .i + 1) 0 (omega arith) (omega arith) refl)
 
 same-length : tie.Need-same-length Inv-loop μ-loop
-same-length c = c .before .loop .inv .1
+same-length c = c .before .loop .inv .long
 
 returns : tie.Need-returns Inv-loop μ-loop
 returns c =
     let l = c .before .loop in
     let s = c .before .before .args in
-    sym (l .inv .2 ∙ written-end (l .out) (l .i) (s .n) (s .at + l .i) (λ n. take n (drop (l .i) (s .src .now))) (omega arith) refl)
+    let z : s .n - l .i ≡ 0 = omega arith in
+    fill-end _ _ _ _ (c .before .before .pre .0) (l .inv) (omega arith) (rw z)
 
 pub write-bytes-spec : {M : Type 1} → statement M
 write-bytes-spec =

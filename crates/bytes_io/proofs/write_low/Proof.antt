@@ -1,28 +1,24 @@
 -- The bytes still to be written, written over what stands there now, give the result.
 -- Assumes nothing.
-use mathlib.Core.Path.{_≡_, refl, sym, ap, _∙_}
-use Prim.Native.Nat.{_+_, _-_, _/_, _%_, _≤_}
-use native.Mathlib.Nat.{add-zero}
+use mathlib.Core.Path.{_≡_}
+use Prim.Native.Nat.{_-_}
 use native.Mathlib.Omega.{arith}
 use borrow.Author.Needs.{needs}
-use lib.ListN.{length, length-set}
 use Rattle.model.specs.Bytes.{bytes}
-use Rattle.bytes_io.specs.Slices.{written}
-use Rattle.bytes_io.proofs.Parts.{set-step, written-end}
+use Rattle.bytes_io.proofs.Parts.{Filling, fill-start, fill-one, fill-end}
 use Rattle.bytes_io.proofs.Numbers.{bytes-step}
 use Rattle.bytes_io.proofs.write_low.Statement.{statement}
 use Rattle.bytes_io.proofs.write_low.Tie as tie
 
 abbrev Inv-loop : tie.InvT-loop
-Inv-loop out₀ at n x y₀ i₀ out y i =
-    (i ≤ n) × (length out ≡ length out₀) × (written out₀ at n (bytes n x) ≡ written out (at + i) (n - i) (bytes (n - i) y))
+Inv-loop out₀ at n x y₀ i₀ out y i = Filling out₀ at n (bytes n x) out i (bytes (n - i) y)
 
 abbrev μ-loop : tie.MeasureT-loop
 μ-loop out₀ at n x y₀ i₀ out y i = n - i
 
 loop-holds : tie.Need-loop-holds Inv-loop μ-loop
 loop-holds c =
-    let z : c .args .n - 0 ≡ c .args .n = omega arith in (omega arith, refl, rw (z, add-zero))
+    let z : c .args .n - 0 ≡ c .args .n = omega arith in rw z (fill-start _ _ _ _)
 
 cast-out : tie.Need-cast-out Inv-loop μ-loop
 cast-out c = search needs
@@ -42,22 +38,18 @@ loop-less c = search needs
 loop-again : tie.Need-loop-again Inv-loop μ-loop
 loop-again c =
     let l = c .before .loop in
-    let s = c .before .before .args in (
-      omega arith,
-      length-set (l .out) (s .at + l .i) (l .y % 256) ∙ l .inv .1,
-      l .inv .2 ∙ ap (written (l .out) (s .at + l .i) (s .n - l .i)) (bytes-step (l .i) (s .n) (l .y) (omega arith))
-          ∙ set-step (l .out) (l .i) (s .n) (s .at + l .i) (s .at + (l .i + 1)) (l .y % 256) (bytes (s .n - (l .i + 1)) (l .y / 256)) (omega arith)
-          (omega arith) (omega arith),
-    )
+    let s = c .before .before in
+    fill-one _ _ _ _ (s .pre) (l .inv) _ _ (omega arith) (bytes-step (l .i) (s .args .n) (l .y) (omega arith))
 
 same-length : tie.Need-same-length Inv-loop μ-loop
-same-length c = c .before .loop .inv .1
+same-length c = c .before .loop .inv .long
 
 returns : tie.Need-returns Inv-loop μ-loop
 returns c =
     let l = c .before .loop in
-    let s = c .before .before .args in
-    sym (l .inv .2 ∙ written-end (l .out) (l .i) (s .n) (s .at + l .i) (λ n. bytes n (l .y)) (omega arith) refl)
+    let s = c .before .before in
+    let z : s .args .n - l .i ≡ 0 = omega arith in
+    fill-end _ _ _ _ (s .pre) (l .inv) (omega arith) (rw z)
 
 pub write-low-spec : {M : Type 1} → statement M
 write-low-spec =

@@ -1,74 +1,34 @@
--- From the count on nothing is shown; below it the place lies in the record, so no sum wraps.
+-- The place for the figures of accepting is that of the part that is shown.
 -- Assumes nothing.
-use Prim.Native.Nat.{_+_, _*_, _≤_}
-use native.Mathlib.Omega.{arith}
-use lib.ListN.{length}
-use Rattle.kbest_c.proofs.Place.{none, head, fits, some}
+use mathlib.Core.Path.{_≡_, ap, _∙_}
+use mathlib.Core.List.{List}
+use Prim.Native.Nat.{ℕ}
+use lib.ListN.{take, drop}
 use borrow.Author.Needs.{needs}
+use Rattle.model.specs.Calls.{acceptStates, acceptCount, shown}
+use Rattle.place.specs.declared.Place.{Place}
+use Rattle.place.specs.Place.{placeOf, browsed, shown-there, browsed-shown}
+use Rattle.kbest_c.specs.Part.{shownOffset, shownLength}
 use Rattle.kbest_c.proofs.kbest_show.Statement.{statement}
 use Rattle.kbest_c.proofs.kbest_show.Tie as tie
 
-fit : (c : tie.After-carried-length) →
-    let s = c .before .before .before .before .before in
-    let a = c .before .before .before .accept in
-    12 + 4 * c .carried-length .result + 8 * a .result .k + s .args .j * a .result .s + a .result .s ≤ length (s .args .filed .now)
-fit c =
-    let s = c .before .before .before .before .before in
-    let a = c .before .before .before .accept in
-    fits (s .args .filed .now) (a .result .k) (s .args .j) (a .ensures .2) (a .result .s) (a .ensures .1) (c .before .if1 .left)
-    (c .carried-length .result) (c .carried-length .ensures .0)
+shows : (r : List ℕ) (j : ℕ) {s k : ℕ} {p : Place} → s ≡ acceptStates r → k ≡ acceptCount r → p ≡ placeOf r s k j
+    → (take (p .size) (drop (p .from) r) ≡ shown r j) × (p .from ≡ shownOffset r j) × (p .size ≡ shownLength r j)
+unfolding browsed placeOf shownOffset shownLength
+shows r j es ek e = (
+  ap (λ (q : Place). take (q .size) (drop (q .from) r)) e ∙ browsed-shown r j es ek,
+  ap (λ (q : Place). q .from) e ∙ rw (es, ek, shown-there r j),
+  ap (λ (q : Place). q .size) e ∙ rw (es, ek, shown-there r j),
+)
 
 accept-requires : tie.Need-accept-requires
 accept-requires c κs = search needs
 
+locate-requires : tie.Need-locate-requires
+locate-requires c κs = search needs
+
 returns : tie.Need-returns
-returns c =
-    let s = c .before .before .before .before in
-    none (s .args .filed .now) _ (s .args .j) (c .before .before .accept .ensures .2) (c .if1 .taken)
-
-carried-length-requires : tie.Need-carried-length-requires
-carried-length-requires c κs =
-    let s = c .before .before .before .before in
-    let a = c .before .before .accept in
-    head (s .args .filed .now) (a .result .k) (s .args .j) (a .ensures .2) (a .result .s) (a .ensures .1) (c .if1 .left)
-
-mul-offset : tie.Need-mul-offset
-mul-offset c = search needs
-
-add-offset : tie.Need-add-offset
-add-offset c = search needs
-
-mul-offset-2 : tie.Need-mul-offset-2
-mul-offset-2 c = omega (arith, fit (c .before), c .before .before .before .before .before .before .good .0 .0)
-
-add-offset-2 : tie.Need-add-offset-2
-add-offset-2 c = omega (arith, fit (c .before), c .before .before .before .before .before .before .good .0 .0)
-
-mul-offset-3 : tie.Need-mul-offset-3
-mul-offset-3 c = omega (arith, fit (c .before .before), c .before .before .before .before .before .before .before .good .0 .0)
-
-add-offset-3 : tie.Need-add-offset-3
-add-offset-3 c = omega (arith, fit (c .before .before), c .before .before .before .before .before .before .before .good .0 .0)
-
-returns-2 : tie.Need-returns-2
-returns-2 c =
-    let d = c .before .before in
-    let s = d .before .before .before .before .before in
-    let a = d .before .before .before .accept in
-    some (s .args .filed .now) (a .result .k) (s .args .j) (a .ensures .2) (a .result .s) (a .ensures .1) (d .before .if1 .left)
-    (d .carried-length .result) (d .carried-length .ensures .0)
+returns c = let a = c .before .accept .ensures in shows _ _ (a .1) (a .2) (c .locate .ensures)
 
 pub kbest-show-spec : {M : Type 1} → statement M
-kbest-show-spec =
-    tie.close
-    (tie.spec
-    accept-requires
-    returns
-    carried-length-requires
-    mul-offset
-    add-offset
-    mul-offset-2
-    add-offset-2
-    mul-offset-3
-    add-offset-3
-    returns-2)
+kbest-show-spec = tie.close (tie.spec accept-requires locate-requires returns)

@@ -9,7 +9,7 @@ use Rattle.model.specs.Model.{scale, action, options}
 use Rattle.model.specs.Recursion.{leastToGo, leastCostToGo}
 use Rattle.model.specs.Questions.{bookNumber}
 use Rattle.model.specs.Calls.{leastCost}
-use Rattle.questions.specs.FirstNo.{refused}
+use Rattle.questions.specs.Answers.{leaves}
 use Rattle.accepted.specs.Shape.{lists, togo-start}
 use Rattle.accepted.specs.Demands.{least-call}
 use Rattle.index.proofs.Lines.{headed}
@@ -27,7 +27,7 @@ returns : tie.Need-returns
 unfolding leastCost
 returns c =
     let e = c .before .check .ensures in
-    (e, sym (refused _ _ _ (λ z. c .if1 .taken (e ∙ z))))
+    (e, leaves e (c .if1 .taken) _ _)
 
 read-sizes-requires : tie.Need-read-sizes-requires
 read-sizes-requires c κs = headed _ (good c)

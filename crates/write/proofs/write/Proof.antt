@@ -1,73 +1,87 @@
--- The questions in order, the list in two arrays, and the record of it.
+-- The questions in order, the list, and the record of it. Its length is asked before a byte is written.
 -- Assumes nothing.
-use mathlib.Core.Path.{sym, _∙_}
-use Rattle.model.specs.Model.{Words}
-use Rattle.asked.specs.Asked.{Asked, asked-says}
-use Rattle.index.proofs.Lines.{headed}
-use Rattle.record.specs.Listed.{arrays-hold, listed}
-use Rattle.write.proofs.Answers.{refuses, asked-no}
+use mathlib.Core.Path.{_≡_, sym, _∙_}
+use Prim.Native.Nat.{_+_, _*_}
+use native.Mathlib.Omega.{arith}
 use borrow.Author.Needs.{needs}
+use borrow.Author.Tests.{le-leb, lt-leb}
+use lib.ListN.{length}
+use Rattle.model.specs.Record.{askedNumber, recordBytes}
+use Rattle.model.specs.Calls.{writeNumber, writeLength, writeRecord}
+use Rattle.questions.specs.FirstNo.{fails, passes, none}
+use Rattle.questions.specs.Answers.{stops, goes-on, leaves, gives}
+use Rattle.asked.specs.Asked.{asked-says}
+use Rattle.record.proofs.Parts.{record-long}
 use Rattle.write.proofs.write.Statement.{statement}
 use Rattle.write.proofs.write.Tie as tie
 
 asked-number-requires : tie.Need-asked-number-requires
-asked-number-requires c κs = tt
+asked-number-requires c κs = search needs
 
-abbrev ws : tie.Start → Words
-ws s = s .args .b .now
-
-good : (c : tie.Else1) → Asked (c .before .before .before .args .b .now) (c .before .before .before .args .k)
-good c = asked-says _ _ (sym (c .before .asked-number .ensures) ∙ c .if1 .left)
+passed : (c : tie.Else1) → askedNumber (c .before .before .before .args .b .now) (c .before .before .before .args .k) ≡ 0
+passed c = sym (c .before .asked-number .ensures) ∙ c .if1 .left
 
 returns : tie.Need-returns
+unfolding writeNumber writeLength writeRecord
 returns c =
-    let s = c .before .before .before in
-    let e = c .before .asked-number .ensures in
-    refuses (ws s) (s .args .k) (s .args .out .now) _ (e ∙ asked-no (ws s) (s .args .k) (s .args .out .now) (λ z. c .if1 .taken (e ∙ z))) (c .if1 .taken)
-
-read-sizes-requires : tie.Need-read-sizes-requires
-read-sizes-requires c κs = headed _ (good c .ok)
-
-no-costs-requires : tie.Need-no-costs-requires
-no-costs-requires c κs = tt
-
-no-plans-requires : tie.Need-no-plans-requires
-no-plans-requires c κs = tt
-
-slice-aggregate-list : tie.Need-slice-aggregate-list
-slice-aggregate-list c = search needs
-
-slice-aggregate-list-2 : tie.Need-slice-aggregate-list-2
-slice-aggregate-list-2 c = search needs
+    let h = c .if1 .taken in
+    let e = stops (c .before .asked-number .ensures) _ h in
+    (e, leaves e h _ _, leaves e h _ _)
 
 list-requires : tie.Need-list-requires
-list-requires c κs =
-    let s = c .before .before .before .before .before .before .before .before in
-    let a = good (c .before .before .before .before .before) in
-    let h = arrays-hold (ws s) (s .args .k) a _ _ (c .before .before .before .no-costs .ensures) (c .before .before .no-plans .ensures) in
-    (a .ok, a .low, a .high, h .0, h .1)
+list-requires c κs = asked-says _ _ (passed c)
 
-slice-aggregate-write-list : tie.Need-slice-aggregate-write-list
-slice-aggregate-write-list c = search needs
+long-is : (c : tie.After-list) →
+    let s = c .before .before .before .before in
+    length (recordBytes (s .args .b .now) (s .args .k)) ≡ 12 + 4 * length (s .args .b .now) + 8 * c .list .result .n + c .list .result .n * c .list .result .s
+long-is c =
+    let long = record-long _ _ _ (c .list .ensures) (asked-says _ _ (passed (c .before)) .ok) in
+    omega (arith, long)
 
-slice-aggregate-write-list-2 : tie.Need-slice-aggregate-write-list-2
-slice-aggregate-write-list-2 c = search needs
+mul-long : tie.Need-mul-long
+mul-long c = search needs
 
-write-list-requires : tie.Need-write-list-requires
-write-list-requires c κs =
-    let s = c .before .before .before .before .before .before .before .before .before .before .before .before .before .before in
-    let f = c .before .before .before .before .before .list .ensures in
-    let a = good (c .before .before .before .before .before .before .before .before .before .before .before) in (
-      a,
-      c .before .before .before .before .before .before .before .before .before .before .read-sizes .ensures .s-is,
-      listed (ws s) (s .args .k) _ _ _ (a .ok) (f .count) (f .costs-are) (f .plans-are),
-    )
+add-long : tie.Need-add-long
+add-long c = search needs
+
+mul-long-2 : tie.Need-mul-long-2
+mul-long-2 c = search needs
+
+add-long-2 : tie.Need-add-long-2
+add-long-2 c = search needs
+
+mul-long-3 : tie.Need-mul-long-3
+mul-long-3 c = search needs
+
+add-long-3 : tie.Need-add-long-3
+add-long-3 c = search needs
+
+returns-2 : tie.Need-returns-2
+unfolding writeNumber writeLength writeRecord
+returns-2 c =
+    let d = c .before .before .before in
+    let a = d .before .before .before .before .args in
+    let e : 18 ≡ writeNumber (a .b .now) (a .k) (length (a .out .now))
+    = goes-on (passed (d .before)) (sym (fails _ _ _ (lt-leb (length (recordBytes (a .b .now) (a .k))) _ (omega (arith, c .if2 .taken, long-is d))))) in
+    (e, leaves e (λ z. omega arith) _ _, leaves e (λ z. omega arith) _ _)
+
+put-record-requires : tie.Need-put-record-requires
+put-record-requires c κs =
+    let d = c .before .before .before .before in
+    (asked-says _ _ (passed (d .before)), d .list .ensures, omega (arith, c .before .if2 .left, long-is d))
 
 same-length : tie.Need-same-length
 same-length c = search needs
 
-returns-2 : tie.Need-returns-2
-returns-2 c = search needs
+returns-3 : tie.Need-returns-3
+unfolding writeNumber writeLength writeRecord
+returns-3 c =
+    let p = c .before .before in
+    let d = p .before .before .before .before .before in
+    let a = d .before .before .before .before .args in
+    let e : 0 ≡ writeNumber (a .b .now) (a .k) (length (a .out .now))
+    = goes-on (passed (d .before)) (sym (passes _ _ _ (le-leb (length (recordBytes (a .b .now) (a .k))) _ (omega (arith, p .before .before .if2 .left, long-is d))) ∙ none _)) in
+    (e, gives (sym e) _ (sym (long-is d)), gives (sym e) _ (p .put-record .ensures))
 
 pub write-spec : {M : Type 1} → statement M
 write-spec =
@@ -75,14 +89,14 @@ write-spec =
     (tie.spec
     asked-number-requires
     returns
-    read-sizes-requires
-    no-costs-requires
-    no-plans-requires
-    slice-aggregate-list
-    slice-aggregate-list-2
     list-requires
-    slice-aggregate-write-list
-    slice-aggregate-write-list-2
-    write-list-requires
+    mul-long
+    add-long
+    mul-long-2
+    add-long-2
+    mul-long-3
+    add-long-3
+    returns-2
+    put-record-requires
     same-length
-    returns-2)
+    returns-3)
