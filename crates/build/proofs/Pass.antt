@@ -27,15 +27,11 @@ module _ (ws : Words) (ok : bookNumber ws ≡ 0) (s reach : ℕ) where
   pub step-outside : (a : ℕ) → has reach s ≡ false → Stepped (action ws) s a 255 reach reach
   step-outside a e = record { byte-is = rw e; reached = bare }
 
-  module _ (a byte : ℕ) (in-it : has reach s ≡ true) (is : byte ≡ a) where
-    pub step-none : byte ≡ 255 → Stepped (action ws) s a 255 reach reach
-    step-none e = record { byte-is = rw in-it (sym e ∙ is); reached = bare }
-
-    pub step-on : (more : ℕ) → SetOf more (nexts (action ws s byte .transitions)) → Stepped (action ws) s a byte reach (union more reach)
-    step-on more m = record {
-      byte-is = rw in-it is;
-      reached = λ qs h. set-union more reach (nexts (action ws s byte .transitions)) qs m h;
-    }
+  pub step-on : (a more : ℕ) → has reach s ≡ true → SetOf more (nexts (action ws s a .transitions)) → Stepped (action ws) s a a reach (union more reach)
+  step-on a more e m = record {
+    byte-is = rw e;
+    reached = λ qs h. set-union more reach (nexts (action ws s a .transitions)) qs m h;
+  }
 
 -- state 0 alone
 pub first-set : SetOf 1 (0 ∷ [])

@@ -2,18 +2,20 @@
 -- Assumes nothing.
 use mathlib.Core.Path.{_≡_, sym, ap, subst}
 use mathlib.Core.Bool.{cond}
-use mathlib.Core.Logic.{_⊎_, inr}
-use Prim.Native.Nat.{ℕ, _<_}
-use native.Mathlib.Decide.{decLt, ℕ-discrete}
+use mathlib.Core.List.{List}
+use mathlib.Core.Logic.{_⊎_, inl, inr}
+use Prim.Native.Nat.{ℕ, _≤_, _<_}
+use native.Mathlib.Nat.{eq-or-lt-of-le}
 use native.Mathlib.Omega.{arith}
 use borrow.Author.Tests.{lt-ltb, le-ltb, eq-eqb, ne-eqb}
-use lib.Dec.{eqb, ltb}
-use Rattle.model.specs.Model.{Words, scale, togo, action, options}
+use lib.Dec.{eqb}
+use lib.ListN.{getD}
+use Rattle.model.specs.Model.{Words, stateCount}
 use Rattle.model.specs.Policy.{Policy}
-use Rattle.model.specs.Recursion.{through}
-use Rattle.laws.specs.Best.{best-cases}
-use Rattle.accepted.specs.Options.{Option}
-use Rattle.build.specs.Walk.{splitBy, chosen, Usable}
+use Rattle.accepted.specs.Options.{Option, Alive}
+use Rattle.build.specs.Best.{BestOf}
+use Rattle.build.specs.Walk.{splitBy, chosen}
+use Rattle.build.proofs.Best.{best-option}
 
 module _ (f : ℕ → ℕ) (r c : ℕ) (g : ℕ → ℕ) where
   pub split-before : (s : ℕ) → s < r → splitBy f r c g s ≡ f s
@@ -28,19 +30,15 @@ module _ (f : ℕ → ℕ) (r c : ℕ) (g : ℕ → ℕ) where
   unfolding splitBy
   split-after s h = rw (le-ltb s r (omega arith), ne-eqb s r (omega arith))
 
-  -- only the action at s counts
-  pub split-same : (h : ℕ → ℕ) (s : ℕ) → g s ≡ h s → splitBy f r c g s ≡ splitBy f r c h s
+-- from state r on the action chosen is c at r, the first best one after it, and one of the options
+module _ (ws : Words) (bs : Policy) (r c s : ℕ) (from : r ≤ s) where
+  pub chosen-from : (best : List ℕ) → BestOf ws best → s < stateCount ws → cond (eqb s r) c (getD best s 0) ≡ chosen ws bs r c s
   unfolding splitBy
-  split-same h s e = ap (λ (a : ℕ). cond (ltb s r) (f s) (cond (eqb s r) c a)) e
+  chosen-from best h l = rw (le-ltb s r from) (ap (cond (eqb s r) c) (h .best-is s l))
 
--- the action chosen at a state is 255 or one of its options
-pub chosen-cases : (ws : Words) (bs : Policy) (r c : ℕ) → Usable ws bs r → Option ws r c → (s : ℕ)
-    → (chosen ws bs r c s ≡ 255) ⊎ Option ws s (chosen ws bs r c s)
-chosen-cases ws bs r c u o s = go (decLt s r) (ℕ-discrete s r)
-  where
-    go : Dec (s < r) → Dec (s ≡ r) → (chosen ws bs r c s ≡ 255) ⊎ Option ws s (chosen ws bs r c s)
-    go (yes h) d = rw split-before (u s h .1)
-    go (no h) (yes e) = rw split-here (inr (subst (λ (p : ℕ). Option ws p c) (sym e) o))
-    go (no h) (no d) =
-        let after : r < s = omega arith in
-        rw split-after (best-cases (through (scale ws) (action ws) (options ws) (togo ws s) s) (options ws s))
+  pub chosen-option : Alive ws s → Option ws r c → Option ws s (chosen ws bs r c s)
+  chosen-option a o = go (eq-or-lt-of-le from)
+    where
+      go : (r ≡ s) ⊎ (r < s) → Option ws s (chosen ws bs r c s)
+      go (inl e) = let here : s ≡ r = sym e in rw split-here (subst (λ (p : ℕ). Option ws p c) e o)
+      go (inr h) = rw split-after (best-option ws s a)

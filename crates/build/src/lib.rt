@@ -1,17 +1,18 @@
 // The bytes of a policy that keeps to another's bytes before one state, takes a given action there, and first best actions after it.
 use book::Sizes;
 ghost use mathlib.Core.Path.{_≡_};
+ghost use mathlib.Core.Bool.{cond};
 ghost use mathlib.Core.List.{[], _∷_, _++_};
 ghost use Prim.Native.Nat.{_+_, _<_, _≤_};
+ghost use lib.Dec.{eqb};
 ghost use lib.ListN.{length, getD, take, drop};
 ghost use Rattle.model.specs.Model.{stateCount, action};
 ghost use Rattle.model.specs.Questions.{bookNumber};
-ghost use Rattle.model.specs.Path.{byteAt};
 ghost use Rattle.accepted.specs.Options.{Option};
 ghost use Rattle.index.specs.Index.{Checked};
 ghost use Rattle.nexts.specs.Nexts.{NextsOf};
 ghost use Rattle.build.specs.Best.{RowsOf, BestOf, SecondOf};
-ghost use Rattle.build.specs.Walk.{walkBy, splitBy, chosen, ActionOrNone, Usable, Stepped, Walked, Own, Passed};
+ghost use Rattle.build.specs.Walk.{walkBy, chosen, ActionOrNone, Usable, Stepped, Walked, Own, Passed};
 
 fn zeros() -> [usize; 128]
     ensures { λ r. ⌜ length r ≡ 128 ⌝ }
@@ -41,14 +42,11 @@ pub fn best_actions(b: &[i32], z: Sizes, q: &[i64; 512], k: usize) -> [usize; 12
     best
 }
 
-// The action at state s: the byte of `plan` before state r, c at r, and that of `best` after it.
-fn choice(best: &[usize; 128], plan: &[u8], r: usize, c: usize, s: usize) -> usize
-    requires { ⌜ (s < 64) × (s < r → s < length (now plan)) ⌝ }
-    ensures { λ a. ⌜ a ≡ splitBy (byteAt (now (plan .entry))) r c (λ p. getD (now (best .entry)) p 0) s ⌝ }
+// The action at state s, which is not before state r: c at r, and that of `best` after it.
+fn choice(best: &[usize; 128], r: usize, c: usize, s: usize) -> usize
+    requires { ⌜ s < 64 ⌝ }
+    ensures { λ a. ⌜ a ≡ cond (eqb s r) c (getD (now (best .entry)) s 0) ⌝ }
 {
-    if s < r {
-        return plan[s] as usize;
-    }
     if s == r {
         return c;
     }
@@ -61,28 +59,12 @@ pub struct Stepping {
     pub reach: u64,
 }
 
-// State s has its action if it is among the states known to be reached, else 255.
-fn step(
-    b: &[i32],
-    nx: &[u64; 512],
-    best: &[usize; 128],
-    plan: &[u8],
-    r: usize,
-    c: usize,
-    s: usize,
-    reach: u64,
-) -> Stepping
-    requires { ⌜ (bookNumber (now b) ≡ 0) × NextsOf (now b) (now nx) × BestOf (now b) (now best) × Usable (now b) (now plan) r × Option (now b) r c × (s < stateCount (now b)) ⌝ }
-    ensures { λ a. ⌜ Stepped (action (now (b .entry))) s (chosen (now (b .entry)) (now (plan .entry)) r c s) (a .byte) reach (a .reach) ⌝ }
+// State s has its action a if it is among the states known to be reached, else 255.
+fn step(b: &[i32], nx: &[u64; 512], s: usize, a: usize, reach: u64) -> Stepping
+    requires { ⌜ (bookNumber (now b) ≡ 0) × NextsOf (now b) (now nx) × (s < stateCount (now b)) × Option (now b) s a ⌝ }
+    ensures { λ r. ⌜ Stepped (action (now (b .entry))) s a (r .byte) reach (r .reach) ⌝ }
 {
     if !sets::has64(reach, s as u64) {
-        return Stepping {
-            byte: 255,
-            reach: reach,
-        };
-    }
-    let a = choice(best, plan, r, c, s);
-    if a == 255 {
         return Stepping {
             byte: 255,
             reach: reach,
@@ -153,9 +135,10 @@ pub fn build(
     let mut reach = from;
     let mut s = r;
     while s < out.len() {
-        let a = step(b, nx, best, plan, r, c, s, reach);
-        out[s] = a.byte;
-        reach = a.reach;
+        let a = choice(best, r, c, s);
+        let t = step(b, nx, s, a, reach);
+        out[s] = t.byte;
+        reach = t.reach;
         s = s + 1;
     }
 }

@@ -1,19 +1,22 @@
 -- The pass has come to state s.
 -- Assumes nothing.
-use mathlib.Core.Path.{_≡_, sym, _∙_}
+use mathlib.Core.Path.{_≡_, sym, _∙_, subst}
 use mathlib.Core.List.{List, _++_}
-use Prim.Native.Nat.{ℕ, _-_, _≤_}
+use Prim.Native.Nat.{ℕ, _-_, _≤_, _<_}
 use native.Mathlib.Omega.{arith}
 use lib.ListN.{length, take, drop}
-use Rattle.model.specs.Model.{stateCount}
-use Rattle.build.specs.Walk.{chosen}
+use Rattle.model.specs.Model.{stateCount, action}
+use Rattle.accepted.specs.Facts.{accepted}
+use Rattle.accepted.specs.Options.{Option, state-alive}
+use Rattle.build.specs.Walk.{chosen, Stepped}
+use Rattle.build.proofs.Split.{chosen-from, chosen-option}
 use Rattle.build.proofs.Pass.{Pass, finish, pass-more}
 use Rattle.build.proofs.Prefix.{usable-long, copied, begin-at}
 use Rattle.build.proofs.build.Statement.{statement}
 use Rattle.build.proofs.build.Tie as tie
 
 abbrev Inv-loop : tie.InvT-loop
-Inv-loop b nx best plan r c from out₀ reach₀ s₀ out reach s = (s ≤ stateCount b) × Pass b (chosen b plan r c) s reach out
+Inv-loop b nx best plan r c from out₀ reach₀ s₀ out reach s = (s ≤ stateCount b) × Pass b (chosen b plan r c) s reach out × (r ≤ s)
 
 abbrev μ-loop : tie.MeasureT-loop
 μ-loop b nx best plan r c from out₀ reach₀ s₀ out reach s = stateCount b - s
@@ -43,35 +46,62 @@ loop-holds : tie.Need-loop-holds Inv-loop μ-loop
 loop-holds c =
     let a = c .before .before in
     let s = a .before .before .before .before in
-    (omega (arith, s .pre .4), begun s (a .copy-before .ensures))
+    (omega (arith, s .pre .4), begun s (a .copy-before .ensures), omega arith)
 
 -- at the head of the loop
 module _ (l : tie.At-loop Inv-loop μ-loop) where
   abbrev s : tie.Start Inv-loop μ-loop
   s = l .before .before .before .before .before .before .before
 
+choice-requires : tie.Need-choice-requires Inv-loop μ-loop
+choice-requires c κs =
+    let a = s (c .before) in
+    omega (arith, c .before .loop .inv .1 .long, accepted (a .args .b .now) (a .pre .0) .sizes .s-high)
+
+-- the action of the state
+module _ (c : tie.After-choice Inv-loop μ-loop) where
+  abbrev l : tie.At-loop Inv-loop μ-loop
+  l = c .before .before
+
+  here : l .loop .s < stateCount (s l .args .b .now)
+  here = omega (arith, l .loop .inv .1 .long)
+
+  is : c .choice .result ≡ choose (s l) (l .loop .s)
+  is =
+      c .choice .ensures
+      ∙ chosen-from (s l .args .b .now) (s l .args .plan .now) (s l .args .r) (s l .args .c) (l .loop .s) (l .loop .inv .2) (s l .args .best .now) (s l .pre .2) here
+
 step-requires : tie.Need-step-requires Inv-loop μ-loop
 step-requires c κs =
-    let l = c .before in
-    let h = s l .pre in
-    (h .0, h .1, h .2, h .3, h .5, omega (arith, l .loop .inv .1 .long))
+    let a = s (l c) in
+    let p = l c .loop .s in (
+      a .pre .0,
+      a .pre .1,
+      here c,
+      subst (Option (a .args .b .now) p) (sym (is c))
+          (chosen-option (a .args .b .now) (a .args .plan .now) (a .args .r) (a .args .c) p (l c .loop .inv .2)
+          (state-alive (a .args .b .now) (a .pre .0) p (here c)) (a .pre .5)),
+    )
 
 slice-write-out : tie.Need-slice-write-out Inv-loop μ-loop
 slice-write-out c = omega arith
 
 add-s : tie.Need-add-s Inv-loop μ-loop
-add-s c = omega (arith, c .before .before .loop .inv .1 .long)
+add-s c = omega (arith, l (c .before) .loop .inv .1 .long)
 
 loop-less : tie.Need-loop-less Inv-loop μ-loop
-loop-less c = let l = c .before .before in omega (arith, l .loop .inv .1 .long)
+loop-less c = omega (arith, l (c .before) .loop .inv .1 .long)
 
 loop-again : tie.Need-loop-again Inv-loop μ-loop
 loop-again c =
-    let l = c .before .before in
+    let l = l (c .before) in
     let a = s l in (
       omega (arith, l .loop .inv .1 .long),
       pass-more (a .args .b .now) (choose a) (l .loop .s) (l .loop .reach) (l .loop .out) (l .loop .inv .1) (a .pre .0)
-          (omega (arith, l .loop .inv .1 .long)) (c .step .result .byte) (c .step .result .reach) (c .step .ensures),
+          (here (c .before)) (c .step .result .byte) (c .step .result .reach)
+          (subst (λ (d : ℕ). Stepped (action (a .args .b .now)) (l .loop .s) d (c .step .result .byte) (l .loop .reach) (c .step .result .reach))
+          (is (c .before)) (c .step .ensures)),
+      omega arith,
     )
 
 same-length : tie.Need-same-length Inv-loop μ-loop
@@ -90,6 +120,7 @@ build-spec =
     μ-loop
     copy-before-requires
     loop-holds
+    choice-requires
     step-requires
     slice-write-out
     add-s
