@@ -11,8 +11,7 @@ use lib.Dec.{lit<}
 use mir.Syntax.{w64}
 use mir.Val.{SFits}
 use lib.IntN.{ℤ, pos, natAbs, _+ℤ_, _-ℤ_, _*ℤ_}
-use lib.ListN.{length, getD, take}
-use Rattle.model.specs.Lists.{insert}
+use lib.ListN.{length, getD}
 use Rattle.model.specs.Questions.{bookNumber}
 use Rattle.build.specs.Best.{RowsOf}
 use Rattle.model.specs.Model.{Words, scale, stateCount, togo, action, options}
@@ -30,8 +29,8 @@ use Rattle.build.proofs.Walk.{walk-greedy}
 use Rattle.reach.specs.Weights.{WeightsOf}
 use Rattle.accepted.specs.Bytes.{byte-is, policy-long, byte-cases}
 use Rattle.splits.specs.Parts.{Reaches}
-use Rattle.stored.specs.Entry.{Entry, earlierEntry}
-use Rattle.stored.specs.Lists.{left, left-option, listsOf}
+use Rattle.stored.specs.Entry.{Entry}
+use Rattle.stored.specs.Lists.{left-option, listsOf}
 use Rattle.stored.specs.Children.{Right, maskAt, childEntry, plan-model, child-right}
 use Rattle.stored.specs.Costs.{cost-moves}
 use Rattle.child.specs.Move.{Movable}

@@ -1,7 +1,6 @@
 -- The tests are the definition's.
 -- Assumes nothing.
 use borrow.Author.Tests.{eq-eqb, ne-eqb}
-use borrow.Author.Needs.{needs}
 use Rattle.costs.proofs.Sums.{read64}
 use Rattle.engine.proofs.may_enter.Statement.{statement}
 use Rattle.engine.proofs.may_enter.Tie as tie

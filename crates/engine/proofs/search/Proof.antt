@@ -6,7 +6,7 @@ use Prim.Native.Nat.{ℕ, _+_, _*_, _-_, _≤_, _<_}
 use native.Mathlib.Nat.{mul-le-mul, mul-le-mul-right}
 use native.Mathlib.Omega.{arith}
 use lib.IntN.{ℤ, pos}
-use lib.ListN.{length, set, getD, take, drop, length-set}
+use lib.ListN.{length, set, getD, take, drop}
 use mir.Syntax.{w64}
 use mir.Val.{toZ, ofZ}
 use borrow.Rule.Slice.PartMut.{putMid}

@@ -1,8 +1,6 @@
 -- At each state the child, if there is one that may be kept, goes into its place in the pool.
 -- Assumes nothing.
 use mathlib.Core.Path.{_≡_, refl, sym, ap, _∙_, subst}
-use mathlib.Core.Bool.{true}
-use mathlib.Core.List.{List}
 use Prim.Native.Nat.{ℕ, _+_, _*_, _-_, _≤_, _<_}
 use native.Mathlib.Omega.{arith}
 use mathlib.Core.Logic.{⊎-elim}
@@ -12,7 +10,6 @@ use lib.Seq.{paste}
 use mir.Syntax.{w64}
 use mir.Val.{toZ, ofZ}
 use Rattle.model.specs.Model.{Words, stateCount}
-use Rattle.model.specs.Policy.{isPolicy}
 use Rattle.accepted.specs.Facts.{accepted}
 use Rattle.index.specs.Index.{Checked}
 use Rattle.accepted.specs.Options.{Option}
