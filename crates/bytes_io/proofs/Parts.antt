@@ -1,6 +1,6 @@
 -- Parts of a slice, written or compared one after another.
 -- Assumes nothing.
-use mathlib.Core.Path.{_≡_, refl, sym, ap, _∙_}
+use mathlib.Core.Path.{_≡_, refl, sym, _∙_}
 use mathlib.Core.Bool.{_&&_}
 use mathlib.Core.List.{List, [], _∷_, _++_, append-assoc}
 use Prim.Native.Nat.{ℕ, suc, _+_, _-_, _≤_, _<_}
@@ -74,23 +74,23 @@ module _ {A : Type 0} (o₀ : List A) (at n : ℕ) (all : List A) where
       record { most = omega arith; long = refl; whole = rw (z, add-zero) }
 
   module _ (fits : at + n ≤ length o₀) {o : List A} {p : ℕ} {rest : List A} (f : Filling o p rest) where
-    -- w elements more
-    pub fill-part : (w q : ℕ) (xs rest′ : List A) {o′ : List A} → length xs ≡ w → q ≡ p + w → q ≤ n → rest ≡ xs ++ rest′
-        → o′ ≡ written o (at + p) w xs → Filling o′ q rest′
-    fill-part w q xs rest′ e m l r h =
+    -- w elements more, from index i on
+    pub fill-part : (w q : ℕ) (xs rest′ : List A) {i : ℕ} {o′ : List A} → length xs ≡ w → i ≡ at + p → q ≡ p + w → q ≤ n → rest ≡ xs ++ rest′
+        → o′ ≡ written o i w xs → Filling o′ q rest′
+    fill-part w q xs rest′ e j m l r h =
         let room : at + p + w ≤ length o = omega (arith, f .long) in
         let left : n - p ≡ w + (n - q) = omega arith in
         let next : at + q ≡ at + p + w = omega arith in
         record {
           most = l;
-          long = ap length h ∙ length-written o (at + p) w xs e room ∙ f .long;
-          whole = f .whole ∙ rw (r, h, left, next) (sym (written-join o (at + p) w xs e room (n - q) rest′));
+          long = rw (h, j) (length-written o (at + p) w xs e room ∙ f .long);
+          whole = f .whole ∙ rw (r, h, j, left, next) (sym (written-join o (at + p) w xs e room (n - q) rest′));
         }
 
     -- one more
-    pub fill-one : (a : A) (rest′ : List A) → p < n → rest ≡ a ∷ rest′ → Filling (set o (at + p) a) (p + 1) rest′
-    fill-one a rest′ l r =
-        fill-part 1 (p + 1) (a ∷ []) rest′ refl refl (omega arith) r (set-written o (at + p) a (omega (arith, f .long)))
+    pub fill-one : (a : A) (rest′ : List A) {i : ℕ} → i ≡ at + p → p < n → rest ≡ a ∷ rest′ → Filling (set o i a) (p + 1) rest′
+    fill-one a rest′ {i} j l r =
+        fill-part 1 (p + 1) (a ∷ []) rest′ refl j refl (omega arith) r (set-written o i a (omega (arith, f .long)))
 
     -- none is left
     pub fill-end : n ≤ p → rest ≡ [] → o ≡ written o₀ at n all

@@ -1,8 +1,9 @@
 -- The ranked list by value: what it is of a book and a count, and the bytes that say it.
 -- Assumes nothing.
 use mathlib.Core.Path.{_≡_}
-use mathlib.Core.List.{List, _++_}
+use mathlib.Core.List.{List}
 use Prim.Native.Nat.{ℕ, _+_, _*_, _≤_}
+use lib.IntN.{ℤ}
 use lib.ListN.{length, take}
 use Rattle.model.specs.Lists.{forEach}
 use Rattle.model.specs.Bytes.{signedBytes}
@@ -11,10 +12,6 @@ use Rattle.model.specs.Policy.{Policy}
 use Rattle.model.specs.Order.{ranking, rankingCosts}
 use Rattle.record.specs.declared.Listing.{Listing}
 
--- "k costs of eight bytes .. and k plans of S bytes"
-abbrev pub listLength : Listing → ℕ
-listLength l = 8 * l .n + l .n * l .s
-
 -- the arrays hold n costs and n policies of s bytes
 pub record Held (l : Listing) : Type 0 where
   pub few : l .n ≤ 64
@@ -22,8 +19,15 @@ pub record Held (l : Listing) : Type 0 where
   pub costs-long : l .n ≤ length (l .costs)
   pub plans-long : l .n * l .s ≤ length (l .plans)
 
-abbrev pub bytesOf : Listing → List ℕ
-bytesOf l = forEach (signedBytes 8) (take (l .n) (l .costs)) ++ take (l .n * l .s) (l .plans)
+-- "k costs of eight bytes .. and k plans of S bytes"
+abbrev pub listLength : Listing → ℕ
+listLength l = 8 * l .n + l .n * l .s
+
+abbrev pub costBytes : ℕ → List ℤ → List ℕ
+costBytes n costs = forEach (signedBytes 8) (take n costs)
+
+abbrev pub planBytes : Listing → List ℕ
+planBytes l = take (l .n * l .s) (l .plans)
 
 -- the list is the ranking of the book for k
 pub record Listed (ws : Words) (k : ℕ) (l : Listing) : Type 0 where

@@ -10,7 +10,7 @@ ghost use Rattle.model.specs.Record.{headQuestions, tailQuestions};
 ghost use Rattle.model.specs.Calls.{over};
 ghost use Rattle.asked.specs.Asked.{Asked};
 ghost use Rattle.bytes_io.specs.Slices.{written};
-ghost use Rattle.record.specs.Listed.{Held, listLength, bytesOf, Listed};
+ghost use Rattle.record.specs.Listed.{costBytes, Listed};
 ghost use Rattle.record.specs.Lengths.{headBytes};
 ghost use Rattle.record.specs.Passed.{RecordHead, sizesFit};
 
@@ -22,7 +22,7 @@ pub struct Listing {
     pub plans: [u8; 4096],
 }
 
-// ---- where the book and the bytes of a list are put
+// ---- where the book and the bytes of costs are put
 
 pub fn no_book() -> [i32; 4172]
     ensures { λ r. ⌜ length r ≡ 4172 ⌝ }
@@ -30,10 +30,10 @@ pub fn no_book() -> [i32; 4172]
     [0; 4172]
 }
 
-fn no_list() -> [u8; 4608]
-    ensures { λ r. ⌜ length r ≡ 4608 ⌝ }
+fn no_costs() -> [u8; 512]
+    ensures { λ r. ⌜ length r ≡ 512 ⌝ }
 {
-    [0; 4608]
+    [0; 512]
 }
 
 // ---- writing
@@ -49,22 +49,15 @@ fn put_head(b: &[i32], k: usize, n: usize, out: &mut [u8])
     bytes_io::write_words(out, 12, b);
 }
 
-// The costs, then the policies, from index `at` on.
-fn put_list(l: Listing, at: usize, out: &mut [u8])
-    requires { ⌜ Held l × (at + listLength l ≤ length (now out)) ⌝ }
-    ensures { λ _. ⌜ now (out .exit) ≡ written (now (out .entry)) at (listLength l) (bytesOf l) ⌝ }
-{
-    bytes_io::write_costs(out, at, &l.costs, l.n);
-    bytes_io::write_bytes(out, at + 8 * l.n, &l.plans, l.n * l.s);
-}
-
 // The record of book b and count k, whose list is l, to the front of `out`.
 pub fn put_record(b: &[i32], k: usize, l: Listing, out: &mut [u8])
     requires { ⌜ Asked (now b) k × Listed (now b) k l × (length (recordBytes (now b) k) ≤ length (now out)) ⌝ }
     ensures { λ _. ⌜ now (out .exit) ≡ over (recordBytes (now (b .entry)) k) (now (out .entry)) ⌝ }
 {
     put_head(b, k, l.n, out);
-    put_list(l, 12 + 4 * b.len(), out);
+    let at = 12 + 4 * b.len();
+    bytes_io::write_costs(out, at, &l.costs, l.n);
+    bytes_io::write_bytes(out, at + 8 * l.n, &l.plans, l.n * l.s);
 }
 
 // ---- what a record carries
@@ -137,14 +130,14 @@ fn sizes_fit(r: &[u8], s: usize) -> bool
     r.len() == 12 + 4 * carried_length(r) + 8 * k + k * s
 }
 
-// Are the bytes from index `at` on those of the list?
-fn same_list(r: &[u8], at: usize, l: Listing) -> bool
-    requires { ⌜ Held l × (length (now r) ≡ at + listLength l) ⌝ }
-    ensures { λ q. ⌜ q ≡ same (drop at (now (r .entry))) (bytesOf l) ⌝ }
+// Are the bytes from index `at` on those of the first n costs?
+fn same_costs(r: &[u8], at: usize, costs: &[i64], n: usize) -> bool
+    requires { ⌜ (at + 8 * n ≤ length (now r)) × (n ≤ length (now costs)) × (n ≤ 64) ⌝ }
+    ensures { λ q. ⌜ q ≡ same (take (8 * n) (drop at (now (r .entry)))) (costBytes n (now (costs .entry))) ⌝ }
 {
-    let mut list = no_list();
-    put_list(l, 0, &mut list);
-    bytes_io::same_bytes(r, at, &list, 8 * l.n + l.n * l.s)
+    let mut bytes = no_costs();
+    bytes_io::write_costs(&mut bytes, 0, costs, n);
+    bytes_io::same_bytes(r, at, &bytes, 8 * n)
 }
 
 // 20, then 21: are costs, plans and k those of the list of the carried book and count?
@@ -158,7 +151,11 @@ pub fn tail_number(r: &[u8], l: Listing) -> u32
     if carried_count(r) != l.n {
         return 21;
     }
-    if !same_list(r, 12 + 4 * carried_length(r), l) {
+    let at = 12 + 4 * carried_length(r);
+    if !same_costs(r, at, &l.costs, l.n) {
+        return 21;
+    }
+    if !bytes_io::same_bytes(r, at + 8 * l.n, &l.plans, l.n * l.s) {
         return 21;
     }
     0

@@ -1,12 +1,12 @@
 -- The words still to be read, written over what stands there now, give the result.
 -- Assumes nothing.
-use mathlib.Core.Path.{_≡_, sym, ap, subst, _∙_}
+use mathlib.Core.Path.{_≡_, sym, ap, _∙_}
 use mathlib.Core.List.{_∷_}
-use Prim.Native.Nat.{ℕ, _+_, _*_, _-_}
-use native.Mathlib.Nat.{add-zero, zero-add}
+use Prim.Native.Nat.{_+_, _*_, _-_}
+use native.Mathlib.Nat.{add-zero}
 use native.Mathlib.Omega.{arith}
 use borrow.Author.Needs.{needs}
-use lib.ListN.{drop, set}
+use lib.ListN.{drop}
 use Rattle.model.specs.Bytes.{wordsOf}
 use Rattle.book.proofs.Words.{read32}
 use Rattle.bytes_io.proofs.Parts.{Filling, fill-start, fill-one, fill-end, written-front}
@@ -55,9 +55,8 @@ loop-again c =
     let ys = wordsOf (s .n - (l .i + 1)) (drop q r) in
     let y = c .read-word in
     rw (read32 (y .result) (y .ok))
-    (subst (λ (k : ℕ). Filling (s .out .now) 0 (s .n) (wordsOf (s .n) (drop (s .at) r)) (set (l .out) k (y .result)) (l .i + 1) ys) (zero-add (l .i))
-    (fill-one _ _ _ _ (omega arith) (l .inv) (y .result) ys (omega arith)
-    (words-step r (l .i) (s .n) p q (omega arith) (omega arith) ∙ ap (λ z. z ∷ ys) (sym (y .ensures)))))
+    (fill-one _ _ _ _ (omega arith) (l .inv) (y .result) ys (omega arith) (omega arith)
+    (words-step r (l .i) (s .n) p q (omega arith) (omega arith) ∙ ap (λ z. z ∷ ys) (sym (y .ensures))))
 
 same-length : tie.Need-same-length Inv-loop μ-loop
 same-length c = c .before .loop .inv .long

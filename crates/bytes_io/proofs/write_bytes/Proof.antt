@@ -38,7 +38,7 @@ loop-again : tie.Need-loop-again Inv-loop μ-loop
 loop-again c =
     let l = c .before .before .loop in
     let s = c .before .before .before .args in
-    fill-one _ _ _ _ (c .before .before .before .pre .0) (l .inv) _ _ (omega arith)
+    fill-one _ _ _ _ (c .before .before .before .pre .0) (l .inv) _ _ refl (omega arith)
     (part-step (s .src .now) (l .i) (s .n) (l .i) (l .i + 1) 0 (omega arith) (omega arith) refl)
 
 same-length : tie.Need-same-length Inv-loop μ-loop

@@ -1,6 +1,6 @@
 -- The costs still to be written, written over what stands there, give the result.
 -- Assumes nothing.
-use mathlib.Core.Path.{_≡_}
+use mathlib.Core.Path.{_≡_, refl}
 use Prim.Native.Nat.{_+_, _*_, _-_}
 use native.Mathlib.Omega.{arith}
 use borrow.Author.Needs.{needs}
@@ -62,7 +62,7 @@ loop-again c =
     let x = getD (s .args .costs .now) (l .i) (pos 0) in
     let e : y .last .0 ≡ written (l .out) (s .args .at + 8 * l .i) 8 (signedBytes 8 x)
     = rw (toZ-ofZ (fit (c .before .before .before .before))) at (y .ensures) in
-    fill-part _ _ _ _ (s .pre .0) (l .inv) 8 (8 * (l .i + 1)) (signedBytes 8 x) _ (length-signed 8 x) (omega arith) (omega arith)
+    fill-part _ _ _ _ (s .pre .0) (l .inv) 8 (8 * (l .i + 1)) (signedBytes 8 x) _ (length-signed 8 x) refl (omega arith) (omega arith)
     (parts-step (signedBytes 8) (s .args .costs .now) (s .args .k) (pos 0) (l .i) (omega arith) (omega arith)) e
 
 same-length : tie.Need-same-length Inv-loop μ-loop

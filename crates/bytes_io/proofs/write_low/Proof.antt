@@ -1,6 +1,6 @@
 -- The bytes still to be written, written over what stands there now, give the result.
 -- Assumes nothing.
-use mathlib.Core.Path.{_≡_}
+use mathlib.Core.Path.{_≡_, refl}
 use Prim.Native.Nat.{_-_}
 use native.Mathlib.Omega.{arith}
 use borrow.Author.Needs.{needs}
@@ -39,7 +39,7 @@ loop-again : tie.Need-loop-again Inv-loop μ-loop
 loop-again c =
     let l = c .before .loop in
     let s = c .before .before in
-    fill-one _ _ _ _ (s .pre) (l .inv) _ _ (omega arith) (bytes-step (l .i) (s .args .n) (l .y) (omega arith))
+    fill-one _ _ _ _ (s .pre) (l .inv) _ _ refl (omega arith) (bytes-step (l .i) (s .args .n) (l .y) (omega arith))
 
 same-length : tie.Need-same-length Inv-loop μ-loop
 same-length c = c .before .loop .inv .long

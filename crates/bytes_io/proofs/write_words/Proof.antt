@@ -1,6 +1,6 @@
 -- The words still to be written, written over what stands there, give the result.
 -- Assumes nothing.
-use mathlib.Core.Path.{_≡_}
+use mathlib.Core.Path.{_≡_, refl}
 use Prim.Native.Nat.{_+_, _*_, _-_}
 use native.Mathlib.Omega.{arith}
 use borrow.Author.Needs.{needs}
@@ -73,7 +73,7 @@ loop-again c =
     let x = getD ws (l .i) (pos 0) in
     let d = c .before .before .before .before in
     let e : y .last .0 ≡ written (l .out) (s .args .at + 4 * l .i) 4 (signedBytes 4 x) = simp (toZ-ofZ (fit d), toZ-ofZ (fit-64 d)) at (y .ensures) in
-    fill-part _ _ _ _ (s .pre) (l .inv) 4 (4 * (l .i + 1)) (signedBytes 4 x) _ (length-signed 4 x) (omega arith) (omega arith)
+    fill-part _ _ _ _ (s .pre) (l .inv) 4 (4 * (l .i + 1)) (signedBytes 4 x) _ (length-signed 4 x) refl (omega arith) (omega arith)
     (parts-step (signedBytes 4) ws (length ws) (pos 0) (l .i) (omega arith) (omega arith)) e
 
 same-length : tie.Need-same-length Inv-loop μ-loop
