@@ -1,459 +1,329 @@
 #!/usr/bin/env python3
-"""Test cases for the calls: crates/cases/stdin, the input of the program `cases`, and crates/cases/stdout, what it has to print.
+"""The stored cases: crates/cases/stdin, the input of the program `cases`, and crates/cases/stdout, what it has to print by reference.py.
 
     tests/cases.py                  writes both files; the same on every run
-    tests/cases.py show SEED N      prints case N of a seed: each command, and what is expected of it; seed `stored` for the stored ones
+    tests/cases.py show SEED N      prints case N of a seed of fresh.py, each command with what is expected; seed `stored` for a stored one
 
-A case is a row of commands over one book; the head of crates/cases/src/main.rt lists them. What is expected is worked out by reference.py alone;
-where the book has too many plans to enumerate, search.py gives the list.
-Case N of a seed is drawn from these two numbers only, so that it can be made again by itself.
+Each rule of document 01 has its cases here: the tours, each question from both sides, which of two comes first, rooms and counts at their limits,
+ties, records with each byte changed, pages, the largest book. Breadth is fresh.py's; a few of its kinds are stored too.
 """
 
-import collections
-import contextlib
 import os
 import random
 import sys
 
 import books
+import kinds
+import machine
 import reference as ref
 import search
+import tours
+from machine import BOOK, OUT, Case, Command, accept, book, little, page, put, rank, show, value, write
 
-CASE, BOOK, BYTES, CHECK, LEAST, VALUE, RANK, WRITE, ACCEPT, SHOW, STORE, LENGTH, POWER, PAGE = range(14)
-NAMES = 'case book bytes check least value rank write accept show store length power page'.split()
-FILL = 77
-MOST_WORDS, MOST_BYTES, MOST_COSTS, MOST_PLAN_BYTES = 4300, 24000, 80, 4400
-PRIME = 2 ** 55 - 55
-STORED_SEED = 1
+LOW, HIGH = -2 ** 31, 2 ** 31 - 1
 
-Command = collections.namedtuple('Command', 'kind k x y payload', defaults=(0, 0, 0, b''))
 
+# ---- a book that is accepted
 
-def encode(command):
-    low, high = command.k % 2 ** 32, command.k // 2 ** 32
-    return b''.join(n.to_bytes(4, 'little') for n in (command.kind, low, high, command.x, command.y)) + command.payload
+def printed(words, k):
+    return [put(little(k, 4), BOOK - 4), page(4 + 4 * len(words))]
 
 
-def book_bytes(words):
-    return b''.join(w.to_bytes(4, 'little', signed=True) for w in words)
+def filed(words, k):
+    """The record, in rooms one short and one longer, accepted, and some plans of it."""
+    record = ref.record(words, k)
+    n, count = len(record), int.from_bytes(record[8:12], 'little')
+    shown = [c for j in sorted({0, count - 1, count}) for c in show(j, n)]
+    return [write(k, n - 1), write(k, n + 1), accept(n)] + shown + [accept(n + 1)]
 
 
-def book(words):
-    return Command(BOOK, x=len(words), payload=book_bytes(words))
+def ranked(words, k):
+    """The list, in rooms that are one longer, and the first plans and the last one valued where they stand."""
+    posts, count = ref.Book(words).posts, len(ref.ranking(words, k))
+    values = [Command('value', OUT + j * posts, OUT + (j + 1) * posts) for j in sorted({0, min(1, count - 1), count - 1})]
+    return [rank(k, k + 1, k * posts + 1)] + values
 
 
-def data(content):
-    content = bytes(content)
-    return Command(BYTES, x=len(content), payload=content)
+def thorough(words, *counts):
+    out = book(words) + [Command('check'), Command('least')]
+    for k in counts:
+        out += ranked(words, k) + printed(words, k) + filed(words, k)
+    return out
 
 
-# ---- what the program has to print
+# ---- the tours
 
-def digest(content):
-    d = 0
-    for x in content:
-        d = (d * 257 + x + 1) % PRIME
-    return d
+def posts_of(words):
+    return 3 if ref.check(words) else ref.Book(words).posts
 
 
-def bytes_text(content):
-    if len(content) <= 128:
-        return ' bytes' + ''.join(' %d' % x for x in content) + '\n'
-    return ' digest %d %d\n' % (len(content), digest(content))
+TOUR_COMMANDS = {
+    'page': lambda words, k: book(words) + printed(words, k),
+    'rank': lambda words, k: book(words) + [rank(k, k, k * posts_of(words)) if k <= 64 else rank(k, 3, 9)],
+    'value': lambda words, plan: book(words) + value(plan),
+    'least': lambda words: book(words) + [Command('least')],
+    'check': lambda words: book(words) + [Command('check')],
+    'write': lambda words, k, room: book(words) + [write(k, room)],
+    'accept': lambda record: [put(record), accept(len(record))] + [c for j in range(3) for c in show(j, len(record))],
+}
 
 
-class Machine:
-    """The places that the program keeps from command to command, and the lines that it prints."""
+def tour_cases():
+    for tour, call, arguments, _ in tours.TABLE:
+        yield 'tour %d: %s' % (tour, call), TOUR_COMMANDS[call](*arguments)
+    for name, words in (('A', tours.book_a()), ('A, closing 8', tours.book_a(closing=8)), ('A, cost -10', tours.book_a(cost=-10)), ('C', tours.book_c()),
+                        ('tour 10', tours.book_of_tour_10(44)), ('tour 10, gains', tours.book_of_tour_10(-44))):
+        yield name, thorough(words, 1, 2, 3)
 
-    def __init__(self):
-        self.words, self.data, self.length = [], bytearray(MOST_BYTES), 0
 
-    def bytes(self):
-        return bytes(self.data[:min(self.length, MOST_BYTES)])
+# ---- questions 1 to 13
 
-    def run(self, c):
-        return getattr(self, 'run_' + NAMES[c.kind])(c)
+SMALL = books.build(4, [1, 2, 2], [[(7, [(0, 1), (1, 3)]), (9, [(1, 4)])], [(2, [(0, 2), (1, 2)]), (-3, [(0, 4)])], [(5, [(1, 4)])], [(1, [])], [(6, [])]])
+DEEP = books.build(100, [1, 2] + [1] * 6, [[(3, [(0, 40), (1, 60)]), (5, [(1, 100)])]] + [[(1, [(0, 100)])]] * 7 + [[(2, [])]])
 
-    def run_case(self, c):
-        return 'case %d\n' % c.k
 
-    def run_book(self, c):
-        self.words = ref.words_of(c.payload)
-        return ''
-
-    def run_bytes(self, c):
-        self.data[:c.x] = c.payload
-        self.length = c.x
-        return ''
-
-    def run_check(self, c):
-        return 'check %d\n' % ref.check(self.words)
-
-    def run_least(self, c):
-        return 'least %d %d\n' % ref.least(self.words)
-
-    def run_value(self, c):
-        return 'value %d %d\n' % ref.value(self.words, self.bytes())
-
-    def run_rank(self, c):
-        costs, plans = [FILL] * min(c.x, MOST_COSTS), [FILL] * min(c.y, MOST_PLAN_BYTES)
-        no, k = ref.rank(self.words, c.k, costs, plans)
-        return 'rank %d %d\n costs%s\n' % (no, k, ''.join(' %d' % x for x in costs)) + bytes_text(plans)
-
-    def run_write(self, c):
-        self.data[:] = bytes([FILL]) * MOST_BYTES
-        lent = bytearray(self.data[:c.x])
-        no, self.length = ref.write(self.words, c.k, lent)
-        self.data[:len(lent)] = lent
-        return 'write %d %d' % (no, self.length) + bytes_text(lent)
-
-    def run_accept(self, c):
-        return 'accept %d %d %d\n' % ref.accept(self.bytes())
-
-    def run_show(self, c):
-        return 'show' + bytes_text(ref.show(self.bytes(), c.k))
-
-    def run_store(self, c):
-        if c.x < MOST_BYTES:
-            self.data[c.x] = c.y % 256
-        return ''
-
-    def run_length(self, c):
-        self.length = c.x
-        return ''
-
-    def run_power(self, c):
-        return 'power %d\n' % (c.x ** c.y if 1 <= c.x <= 100 and 0 <= c.y <= 8 else 0)
-
-    def run_page(self, c):
-        text = ref.page(self.bytes()).decode()
-        return 'page %d\n' % len(text) + text
-
-
-# ---- the commands of a case
-
-def some_count(rng, plans):
-    """K: small, near the number of plans, or any."""
-    return max(1, min(64, rng.choice([1, 2, 3, rng.randint(1, 12), rng.randint(1, 64), 64, plans - 1, plans, plans + 1])))
-
-
-def bad_count(rng):
-    return rng.choice([0, 65, 66, 255, 256, 2 ** 31, 2 ** 32 - 1, 2 ** 32, 2 ** 32 + 3, 2 ** 63, 2 ** 64 - 1])
-
-
-def values(rng, words):
-    """Some plans of the book, and slices that are none."""
-    listed = ref.in_order(tuple(words))
-    for _ in range(rng.randint(1, 3)):
-        yield data(rng.choice(listed)[1])
-        yield Command(VALUE)
-    for _ in range(rng.randint(1, 2)):
-        yield data(books.bent_plan(rng, words, rng.choice(listed)[1]))
-        yield Command(VALUE)
-
-
-def rooms(rng, k, posts):
-    """A rank with rooms that fit, or that are one short, or longer."""
-    places = max(0, k + rng.choice([0, 0, 0, 1, 3, -1]))
-    plan_bytes = max(0, k * posts + rng.choice([0, 0, 0, 1, 5, -1]))
-    return Command(RANK, k=k, x=places, y=plan_bytes)
-
-
-def changed_bytes(rng, record, words, k):
-    """Bytes of a record to change, from each of its parts: (place, new byte)."""
-    posts, w = ref.Book(words).posts, len(words)
-    parts = [(0, 4), (4, 8), (8, 12), (12, 12 + 4 * w), (12 + 4 * w, 12 + 4 * w + 8 * k), (12 + 4 * w + 8 * k, len(record))]
-    for _ in range(rng.randint(2, 5)):
-        low, high = rng.choice(parts)
-        at = rng.randrange(low, high)
-        yield at, rng.choice([record[at] ^ 1 << rng.randrange(8), (record[at] + 1) % 256, (record[at] - 1) % 256, rng.randrange(256)])
-
-
-def carried_feasible(record):
-    w = int.from_bytes(record[:4], 'little')
-    return w > ref.LONGEST_BOOK or books.feasible(ref.words_of(record[12:12 + 4 * w]))
-
-
-def record_changes(rng, words, most):
-    """The record's bytes changed, one place at a time, each put back after it is asked."""
-    record = ref.record(words, most)
-    k = int.from_bytes(record[8:12], 'little')
-    for at, x in changed_bytes(rng, record, words, k):
-        other = bytearray(record)
-        other[at] = x
-        if carried_feasible(other):
-            yield from (Command(STORE, x=at, y=x), Command(ACCEPT))
-            if rng.random() < 0.3:
-                yield Command(SHOW, k=rng.randrange(k))
-            yield Command(STORE, x=at, y=record[at])
-    for at, now in ((4, most), (8, k)):
-        x = rng.choice([0, 1, now - 1, now + 1, k, k + 1, 64, 65, 255]) % 256
-        yield from (Command(STORE, x=at, y=x), Command(ACCEPT), Command(STORE, x=at, y=now))
-    sizes = [0, 11, 12, 12 + 4 * len(words) - 1, 12 + 4 * len(words), len(record) - 1, len(record) + 1, len(record) + 8, rng.randrange(len(record))]
-    for n in rng.sample(sizes, 2):
-        yield from (Command(LENGTH, x=n), Command(ACCEPT))
-
-
-def good(rng, words):
-    """All calls on a book, where ranking needs no enumeration that is too long."""
-    yield from (book(words), Command(CHECK), Command(LEAST))
-    if ref.check(words):
-        return
-    posts, listed = ref.Book(words).posts, ref.in_order(tuple(words))
-    yield from values(rng, words)
-    yield rooms(rng, some_count(rng, len(listed)), posts)
-    most = some_count(rng, len(listed))
-    size = len(ref.record(words, most))
-    if rng.random() < 0.2:
-        yield from (Command(WRITE, k=most, x=size - 1), Command(ACCEPT))
-    yield from (Command(WRITE, k=most, x=size + rng.choice([0, 0, 1, 30])), Command(ACCEPT))
-    k = min(most, len(listed))
-    for j in sorted({0, rng.randrange(k), k, rng.choice([k - 1, k + 1, 2 ** 32, 2 ** 64 - 1])}):
-        yield Command(SHOW, k=j)
-    yield from record_changes(rng, words, most)
-
-
-def as_record(words, most, k, listed):
-    """The bytes of a record with any k, costs and plans."""
-    out = b''.join(n.to_bytes(4, 'little') for n in (len(words), most, k)) + book_bytes(words)
-    return out + b''.join(cost.to_bytes(8, 'little', signed=True) for cost, _ in listed) + b''.join(bytes(plan) for _, plan in listed)
-
-
-def forged(rng):
-    """Records whose sizes fit and whose list is another: short by one plan, empty, with a plan twice, in another order, with a plan that belongs later,
-    with a cost that is not the plan's."""
-    words, listed = [], []
-    while len(listed) < 3:
-        words = books.draw(rng, rng.choice([books.small, books.ties, books.few]))
-        listed = [] if ref.check(words) else ref.in_order(tuple(words))
-    most = rng.choice([2, 3, 5, len(listed), len(listed) + 1])
-    most = min(most, 64)
-    best = listed[:most]
-    other = [best[:-1], [], best + best[-1:], best[:-1] + best[:1], best[1:2] + best[:1] + best[2:], best[:-1] + listed[-1:],
-             [(best[0][0] + 1, best[0][1])] + best[1:], [(best[0][0], best[1][1])] + best[1:], best]
-    yield book(words)
-    for row in other:
-        yield from (data(as_record(words, most, len(row), row)), Command(ACCEPT), Command(SHOW, k=0))
-
-
-def longest(rng):
-    """W at its bound and one beyond, with all the bytes that it asks for, each 77."""
-    for w in (4172, 4173):
-        yield Command(WRITE, k=0)
-        yield from (Command(STORE, x=i, y=x) for i, x in enumerate(w.to_bytes(4, 'little')))
-        for n in (12 + 4 * w, 12 + 4 * w - 1, 12 + 4 * w + rng.randrange(9)):
-            yield from (Command(LENGTH, x=n), Command(ACCEPT))
-
-
-def vast(rng):
-    """All calls on a book that has too many plans to enumerate."""
-    words = books.vast(rng)
-    most = rng.choice([64, 64, rng.randint(2, 63)])
-    with search.instead_of_enumeration():
-        listed, record, posts = ref.ranking(words, most), ref.record(words, most), 64
-    yield from (book(words), Command(CHECK), Command(LEAST), Command(RANK, k=most, x=most, y=most * posts))
-    for plan in (listed[-1][1], rng.choice(listed)[1], books.bent_plan(rng, words, listed[0][1])):
-        yield from (data(plan), Command(VALUE))
-    yield from (Command(WRITE, k=most, x=len(record)), Command(ACCEPT), Command(SHOW, k=len(listed) - 1), Command(SHOW, k=len(listed)))
-    for _ in range(3):
-        at = rng.randrange(12 + 4 * len(words), len(record))
-        yield from (Command(STORE, x=at, y=record[at] ^ 1), Command(ACCEPT), Command(STORE, x=at, y=record[at]))
-    yield from (Command(LENGTH, x=len(record) - 1), Command(ACCEPT))
-
-
-def refused(rng, words):
-    """All calls on a book that has faults, or with a count that is not allowed; and records that carry it."""
-    yield from (book(words), Command(CHECK), Command(LEAST), data([0, 0, 255]), Command(VALUE))
-    k = rng.choice([3, 64, bad_count(rng)])
-    yield rng.choice([Command(RANK, k=k, x=3, y=40), Command(RANK, k=k)])
-    yield Command(WRITE, k=k, x=rng.choice([0, 40, 400]))
-    k = k % 2 ** 32
-    tail = bytes(rng.randrange(256) for _ in range(rng.choice([0, 8, 11])))
-    head = b''.join(n.to_bytes(4, 'little') for n in (len(words), k, rng.choice([0, 1, 2, k])))
-    yield from (data(head + book_bytes(words) + tail), Command(ACCEPT), Command(SHOW, k=0))
-
-
-def bad_counts(rng, words):
-    """A good book with counts that are not allowed, and rooms that are short too."""
-    yield book(words)
-    posts = ref.Book(words).posts if not ref.check(words) else 3
-    for _ in range(3):
-        k = bad_count(rng)
-        yield from (Command(RANK, k=k, x=rng.choice([0, 70]), y=rng.choice([0, 4300])), Command(WRITE, k=k, x=rng.choice([0, 900])))
-    k = rng.randint(1, 64)
-    yield from (Command(RANK, k=k, x=k - 1, y=rng.choice([0, k * posts])), Command(RANK, k=k, x=k, y=k * posts - 1))
-    yield Command(WRITE, k=k, x=rng.choice([0, 5, 12]))
-
-
-def noise(rng):
-    """Random bytes as a record, some with a head that fits them."""
-    kind = rng.randrange(4)
-    if kind == 0:
-        yield data(rng.randrange(256) for _ in range(rng.randrange(60)))
-    elif kind == 1:
-        w = rng.randrange(12)
-        yield data(w.to_bytes(4, 'little') + bytes(rng.randrange(4) for _ in range(8 + 4 * w + rng.choice([-1, 0, 1, 9]))))
-    elif kind == 2:
-        w = rng.choice([4172, 4173, 2 ** 32 - 1, 2 ** 30, 2 ** 30 + 1])
-        yield data(w.to_bytes(4, 'little') + bytes(rng.choice([8, 20, 200])))
-    else:
-        words = books.wild(rng)
-        head = len(words).to_bytes(4, 'little') + bytes([rng.randrange(70), 0, 0, 0, rng.randrange(4), 0, 0, 0])
-        yield data(head + book_bytes(words) + bytes(rng.randrange(30)))
-    yield from (Command(ACCEPT), Command(SHOW, k=rng.randrange(3)))
-
-
-def powers(rng):
-    for _ in range(20):
-        yield Command(POWER, x=rng.choice([rng.randrange(110), 0, 1, 100, 101, 2 ** 32 - 1]), y=rng.choice([rng.randrange(12), 0, 8, 9, 2 ** 32 - 1]))
-
-
-def faulty(rng, faults):
-    words = books.draw(rng, rng.choice([books.small, books.few, books.wide, books.edge]))
-    if ref.check(words):
-        return words
-    for _ in range(50):
-        other = books.broken(rng, words, faults)
-        if books.feasible(other):
-            return other
+def with_words(words, *changes):
+    words = list(words)
+    for at, x in changes:
+        words[at] = x
     return words
 
 
-def any_input(rng):
-    """K and a book; or too few bytes, a leftover, a fault, or more than is read."""
-    kind = rng.randrange(12)
-    if kind == 0:
-        return bytes(rng.randrange(256) for _ in range(rng.randrange(9)))
-    words = books.draw(rng, rng.choice(books.SHAPES + [books.large] if rng.random() < 0.1 else books.SHAPES))
-    k = rng.choice([1, 2, 3, 64, rng.randint(1, 64)])
-    if kind == 1:
-        k = rng.choice([0, 65, 256, 2 ** 31, 2 ** 32 - 1])
-    if kind in (2, 3):
-        words = faulty(rng, rng.sample(books.BREAKS, rng.randint(1, 3)))
-    data = k.to_bytes(4, 'little') + book_bytes(words)
-    if kind == 4:
-        return data + bytes(rng.randint(1, 3))
-    if kind == 5:
-        return data[:rng.randrange(len(data))]
-    if kind == 6:
-        return data + bytes(rng.choice([4, 16696, 16696 - len(data), 16697 - len(data), 16699 - len(data), 40000]))
-    return data
+def one_choice(scale, sizes, cost=1):
+    """One choice a post, to every next post that the scale can tell apart."""
+    rows = []
+    for n, size in enumerate(sizes):
+        r = min(sizes[n + 1], scale) if n + 1 < len(sizes) else 0
+        rows += [[(cost, [(i, 1 if i < r - 1 else scale - r + 1) for i in range(r)])]] * size
+    return books.build(scale, sizes, rows)
 
 
-def input_feasible(data):
-    data = data[:16696]
-    return len(data) % 4 > 0 or len(data) < 4 or books.feasible(ref.words_of(data[4:]))
+def each(question, what, place, *values):
+    """SMALL with one word made each of the values."""
+    return [(question, '%s %d' % (what, x), with_words(SMALL, (place, x))) for x in values]
 
 
-def page_input(rng):
-    while True:
-        found = any_input(rng)
-        if input_feasible(found):
-            return found
+def size_limits(at):
+    """(question, what, book) on both sides of the questions 1 to 7; so the next two."""
+    ends = [*range(4 + at.stages + 2), len(SMALL) - 1]
+    yield from ((7 if n > 3 + at.stages else 5 if n > 2 else 1, 'the first %d words' % n, SMALL[:n]) for n in ends)
+    yield from each(2, 'D', 0, LOW, -1, 0, 101, HIGH)
+    yield from ((2, 'D %d' % d, one_choice(d, [1, 2])) for d in (1, 2, 100))
+    yield from each(3, 'H', 1, LOW, -1, 0, 9, HIGH)
+    yield from ((3, 'H %d' % h, one_choice(2, [1] + [2] * h)) for h in (1, 8))
+    yield from each(4, 'L', 2, LOW, -1, 0, 1, 2048, 2049, HIGH)
+    yield from each(6, 'posts at stage 0:', 3, LOW, -1, 0, 2, HIGH)
+    yield from each(6, 'posts at stage 1:', 4, LOW, -1, 0, 1, 16, 17, HIGH)
+    yield from each(6, 'posts at stage 2:', 5, 0, 17, HIGH)
+    yield 6, '65 posts', [1, 4, 200, 1, 16, 16, 16, 16]
+    yield 6, '64 posts', [1, 4, 200, 1, 16, 16, 16, 15]
+    yield 6, 'posts whose sum wraps', [1, 2, 200, 1, HIGH, HIGH]
+    yield 7, 'a word more', SMALL + [0]
+    yield from each(7, 'L', 2, SMALL[2] - 1, SMALL[2] + 1)
 
 
-def page(rng):
-    yield data(page_input(rng)[:MOST_BYTES])
-    yield Command(PAGE)
+def line_limits(at):
+    """8 and 9."""
+    yield from each(8, 'choices', at.counts[1], LOW, -1, 0, 8, 9, HIGH)
+    yield from each(8, 'choices at stage H:', at.counts[-1], LOW, 0, 2, HIGH)
+    yield 8, '8 choices', books.build(1, [1, 1], [[(c, [(0, 1)]) for c in range(8)], [(0, [])]])
+    yield from each(9, 'r', at.left + at.heads[0], LOW, -1, 0, 1, 3, 16, 17, HIGH)
+    yield from each(9, 'r of the last choice', at.left + at.heads[-1], 0, 2, 3, 4)
+    yield from each(9, 'r at stage H:', at.left + at.last_heads[0], LOW, -1, 1, HIGH)
+    yield 9, 'r 16', one_choice(16, [1, 16])
+    yield 9, 'r 17 with all its lines', books.build(17, [1, 16], [[(1, [(i, 1) for i in range(17)])]] + [[(1, [])]] * 16)
+    yield 9, 'a line left over', SMALL[:2] + [SMALL[2] + 1] + SMALL[3:at.right] + [0] + SMALL[at.right:] + [0]
+    yield 9, 'choices that use fewer lines', with_words(SMALL, (at.counts[0], 1))
 
 
-# ---- which cases there are
-
-def good_of(shape):
-    return lambda rng: good(rng, books.draw(rng, shape))
-
-
-def fault(n):
-    return lambda rng: refused(rng, faulty(rng, [books.BREAKS[n - 1]]))
-
-
-def faults(rng):
-    return refused(rng, faulty(rng, rng.sample(books.BREAKS, rng.randint(2, 4))))
-
-
-def wild(rng):
-    words = books.wild(rng)
-    return refused(rng, words) if books.feasible(words) else powers(rng)
+def word_limits(at, deep):
+    """10 to 13; 100^7 × 8 × 5,000 is the bound of 13 itself."""
+    step = at.steps[0][0]
+    for what, line in (('cost', at.heads[0]), ('closing cost', at.last_heads[0])):
+        yield from each(10, what, at.right + line, LOW, -100001, -100000, 100000, 100001, HIGH)
+    yield from each(11, 'next post', at.left + step, LOW, -1, 1, 2, HIGH)
+    yield from each(11, 'second next post', at.left + step + 1, LOW, -1, 0, 2, HIGH)
+    yield 11, 'next posts that fall', with_words(SMALL, (at.left + step, 1), (at.left + step + 1, 0))
+    yield from each(12, 'weight', at.right + step, LOW, -1, 0, 2, 4, 5, HIGH)
+    yield 12, 'weights whose sum wraps', with_words(SMALL, (at.right + step, HIGH), (at.right + step + 1, HIGH))
+    yield 12, 'a weight of 0 beside D', with_words(SMALL, (at.right + step, 0), (at.right + step + 1, 4))
+    for what, line in (('cost', deep.heads[0]), ('closing cost', deep.last_heads[0])):
+        yield from ((13, '%s %d' % (what, x), with_words(DEEP, (deep.right + line, x))) for x in (5000, 5001, -5000, -5001))
 
 
-def kinds():
-    """(how many of the stored cases, how they are made)"""
-    for shape, count in ((books.small, 250), (books.deep, 130), (books.wide, 56), (books.ties, 140), (books.few, 150), (books.unreached, 80),
-                         (books.crossing, 110), (books.many, 30), (books.edge, 80), (books.large, 10), (books.full, 4)):
-        yield count, good_of(shape)
-    yield 12, vast
-    for n in range(1, 14):
-        yield 36, fault(n)
-    yield 200, faults
-    yield 60, wild
-    yield 60, lambda rng: bad_counts(rng, books.draw(rng, rng.choice(books.SHAPES)))
-    yield 140, noise
-    yield 36, forged
-    yield 4, longest
-    yield 10, powers
-    yield 200, page
+def limit_cases():
+    at, deep = books.Places(SMALL), books.Places(DEEP)
+    for question, what, words in [*size_limits(at), *line_limits(at), *word_limits(at, deep)]:
+        yield 'question %d: %s' % (question, what), list(kinds.carried(words, 3, 1)) if ref.check(words) else thorough(words, 2)
 
 
-def make(seed, n, kind):
-    """The first command says by y, which the program does not read, that the book cannot be enumerated."""
-    rng = random.Random('%s:%d' % (seed, n))
-    return [Command(CASE, k=n, y=int(kind is vast))] + list(kind(rng))
+# A fault for each question that leaves the others in place.
+FAULTS = {
+    2: lambda at: (0, 0),
+    3: lambda at: (1, 9),
+    4: lambda at: (2, 0),
+    6: lambda at: (4, 17),
+    8: lambda at: (at.counts[1], 9),
+    9: lambda at: (at.left + at.heads[-1], 17),
+    10: lambda at: (at.right + at.heads[0], 100001),
+    11: lambda at: (at.left + at.steps[0][0], 1),
+    12: lambda at: (at.right + at.steps[0][0], 101),
+    13: lambda at: (at.right + at.last_heads[0], 5001),
+}
 
 
-def stored_kinds():
-    row = [kind for count, kind in kinds() for _ in range(count)]
-    random.Random(STORED_SEED).shuffle(row)
-    return row
+def order_cases():
+    """Two questions are answered no, and so are 14 to 18 and 20: the first of all counts."""
+    at, row = books.Places(DEEP), sorted([7, *FAULTS])
+    for p in row:
+        for q in row:
+            if p < q:
+                words = with_words(DEEP, *(FAULTS[n](at) for n in (p, q) if n != 7)) + [0] * (7 in (p, q))
+                assert ref.check(words) == p, 'the faults of %d and %d give %d' % (p, q, ref.check(words))
+                yield 'questions %d and %d' % (p, q), list(kinds.carried(words, 65, 0, b'1'))
+
+
+# ---- questions 14 to 18
+
+COUNTS = (0, 1, 64, 65, 66, 255, 256, 2 ** 24 + 3, 2 ** 31, 2 ** 32 - 1, 2 ** 32, 2 ** 32 + 3, 2 ** 63, 2 ** 64 - 1)
+
+
+def not_plans(words):
+    for _, plan in ref.ranking(words, 2):
+        for other in [[], plan[:-1], plan + (0,), plan + (255,)]:
+            yield from value(other)
+        for i in range(len(plan)):
+            for x in sorted({0, 1, 2, 8, 254, 255} - {plan[i]}):
+                yield from value(plan[:i] + (x,) + plan[i + 1:])
+
+
+def lent_cases():
+    a, c = tours.book_a(), tours.book_c()
+    for k in COUNTS:
+        ranks = [rank(k, 0, 0), rank(k, 64, 192) if k == 64 else rank(k, 3, 9)]
+        yield 'K %d' % k, book(a) + ranks + [write(k, 0), write(k, 20)] + (printed(a, k) if k < 2 ** 32 else [])
+    for words, k, size in ((a, 3, 9), (c, 64, 256)):
+        rooms = (0, 0), (k - 1, size), (k - 1, size - 1), (k, size - 1), (k, size), (k + 1, size + 1)
+        yield 'rooms for K %d' % k, book(words) + [rank(k, *room) for room in rooms]
+    yield 'rooms for a record', book(a) + [write(3, n) for n in (0, 11, 12, 121, 122, 123)]
+    for name, words in (('A', a), ('C', c)):
+        yield 'no plans of ' + name, book(words) + list(not_plans(words))
+
+
+# ---- lists
+
+def chain(*counts, cost=lambda choice: 0):
+    """One post a stage, with so many choices each."""
+    return books.build(1, [1] * (len(counts) + 1), [[(cost(c), [(0, 1)]) for c in range(n)] for n in counts] + [[(0, [])]])
+
+
+def both_ends():
+    costs = [100000, -100000, 99999]
+    rows = [[(x, [(0, 1), (1, 2)]) for x in costs]] + [[(x, [(0, 3)]) for x in costs]] * 2 + [[(-100000, [])]]
+    return books.build(3, [1, 2, 1], rows)
+
+
+def far_posts():
+    """Post 3 is reached by no plan, post 1 by some."""
+    rows = [[(4, [(1, 2)]), (4, [(0, 1), (1, 1)])], [(0, [(2, 2)]), (1, [(0, 2)])], [(0, [(2, 2)])], [(-9, [(1, 2)])] * 3]
+    return books.build(2, [1, 3, 3], rows + [[(x, [])] for x in (1, 0, 1)])
+
+
+def list_cases():
+    yield '64 plans that tie', thorough(chain(8, 8), 63, 64)
+    yield '512 plans that tie', thorough(chain(8, 8, 8), 64)
+    yield '512 plans, the later choices better', thorough(chain(8, 8, 8, cost=lambda choice: -choice), 64)
+    yield 'costs at both ends', thorough(both_ends(), 64)
+    yield 'one plan', thorough(one_choice(2, [1, 2, 2]), 1, 64)
+    yield 'posts that some or all plans do not reach', thorough(far_posts(), 64)
+
+
+# ---- records
+
+def flipped(record, bit):
+    """Each byte with a bit flipped, one at a time."""
+    n, bent = len(record), bytes(x ^ bit for x in record)
+    out = [put(record), put(bent[:1]), accept(n)]
+    for at in range(1, n):
+        out += [put(record[at - 1:at] + bent[at:at + 1], OUT + at - 1), accept(n)]
+    return out
+
+
+def replaced(record, at, numbers):
+    """Four bytes made each of the numbers."""
+    n, out = len(record), [put(record)]
+    for x in numbers:
+        out += [put(little(x, 4), OUT + at), accept(n)] + show(0, n)
+    return out
+
+
+def record_cases():
+    for name, record, bits in (('A, K 3', ref.record(tours.book_a(), 3), (1, 128)), ('C, K 2', ref.record(tours.book_c(), 2), (1,))):
+        for bit in bits:
+            yield 'the record of %s, each byte with bit %d flipped' % (name, bit), flipped(record, bit)
+        yield 'the record of %s, each length' % name, [put(record)] + [accept(n) for n in range(len(record) + 3)]
+    record = ref.record(tours.book_a(), 3)
+    yield 'the record of A with another W', replaced(record, 0, (0, 1, 3, 21, 23, 27, 4172, 4173, 2 ** 30, 2 ** 32 - 1))
+    yield 'the record of A with another K', replaced(record, 4, (0, 1, 2, 4, 64, 65, 2 ** 32 - 1))
+    yield 'the record of A with another k', replaced(record, 8, (0, 1, 3, 4, 2 ** 32 - 1))
+    for k in (2, 3, 64):
+        yield 'other lists for C, K %d' % k, list(kinds.forged_lists(tours.book_c(), k))
+    yield 'other lists where plans tie', list(kinds.forged_lists(chain(2, 2), 3))
+    yield 'the longest W', list(kinds.longest(random.Random(0)))
+
+
+# ---- pages, powers, the largest book
+
+def page_cases():
+    a, c = tours.book_a(), tours.book_c()
+    lengths = 0, 3, 4, 5, 16, 91, 93, 94, 95, 96, 16692, 16695, 16696, 16697, 16700
+    yield 'pages of A', book(a) + [x for k in (1, 2, 3, 64) for x in printed(a, k)] + [page(n) for n in lengths]
+    yield 'pages of C', book(c) + [x for k in (1, 3, 64) for x in printed(c, k)]
+
+
+def power_cases():
+    yield 'powers', [Command('power', k=d, z=e) for d in (0, 1, 2, 7, 10, 99, 100, 101, 2 ** 32 + 2, 2 ** 64 - 1) for e in (0, 1, 2, 7, 8, 9, 255)]
+
+
+def largest():
+    """64 posts, H = 8, 2,048 lines."""
+    rng, sizes, rows = random.Random('largest'), [1, 7] + [8] * 7, []
+    lines = [4] * 48 + [4, 3] * 200    # below each choice's first
+    for n, size in enumerate(sizes[:-1]):
+        rows += [[(rng.randint(-500, 3000), books.nexts(rng, 10, sizes[n + 1], lines.pop(0))) for _ in range(8)] for _ in range(size)]
+    return books.build(10, sizes, rows + [[(rng.randint(0, 99), [])] for _ in range(8)])
+
+
+def largest_case():
+    words = largest()
+    with search.instead_of_enumeration():
+        return Case('the largest book and the longest record', thorough(words, 64), True)
+
+
+# ---- all of them
+
+DRAWN = {'small': 6, 'deep': 2, 'wide': 1, 'ties': 5, 'few': 3, 'unreached': 3, 'crossing': 6, 'many': 1, 'edge': 2, 'full': 1, 'faults': 6, 'noise': 8}
 
 
 def stored():
-    return [make(STORED_SEED, n, kind) for n, kind in enumerate(stored_kinds())]
-
-
-def fresh(seed, n):
-    """Case n of any seed, of a kind that is drawn by how often the stored cases have it."""
-    row = list(kinds())
-    return make(seed, n, random.Random('kind %s:%d' % (seed, n)).choices([kind for _, kind in row], [count for count, _ in row])[0])
-
-
-def lists(case):
-    return search.instead_of_enumeration() if case[0].y else contextlib.nullcontext()
-
-
-def expected(cases):
-    machine, out = Machine(), []
-    for case in cases:
-        with lists(case):
-            out += [machine.run(c) for c in case]
-    return ''.join(out)
-
-
-def encoded(cases):
-    return b''.join(encode(c) for case in cases for c in case)
-
-
-def describe(case):
-    """Each command of a case in words, with what it has to print below it."""
-    machine, out = Machine(), []
-    with lists(case):
-        for c in case:
-            figures = ''.join(' %s=%d' % (name, x) for name, x in zip('kxy', (c.k, c.x, c.y)) if x)
-            content = ' ' + ' '.join(map(str, ref.words_of(c.payload) if c.kind == BOOK else c.payload)) if c.payload else ''
-            out.append('> ' + NAMES[c.kind] + figures + content + '\n' + machine.run(c))
-    return ''.join(out)
+    made = [case for group in (tour_cases, limit_cases, order_cases, lent_cases, list_cases, record_cases, page_cases, power_cases) for case in group()]
+    cases = [Case(title, commands) for title, commands in made] + [largest_case()]
+    drawn = [name for name, count in DRAWN.items() for _ in range(count)]
+    cases += [kinds.make('stored', n, name) for n, name in enumerate(drawn)]
+    return [case._replace(title='%d %s' % (n, case.title)) for n, case in enumerate(cases)]
 
 
 def main(args):
     if args[:1] == ['show']:
         seed, n = args[1], int(args[2])
-        sys.stdout.write(describe(make(STORED_SEED, n, stored_kinds()[n]) if seed == 'stored' else fresh(seed, n)))
+        sys.stdout.write(machine.describe(stored()[n] if seed == 'stored' else kinds.fresh(seed, n)))
         return
     folder = os.path.join(os.path.dirname(os.path.abspath(__file__)), '..', 'crates', 'cases')
     cases = stored()
     with open(os.path.join(folder, 'stdin'), 'wb') as f:
-        f.write(encoded(cases))
+        f.write(machine.encoded(cases))
     with open(os.path.join(folder, 'stdout'), 'w') as f:
-        f.write(expected(cases))
+        f.write(machine.expected(cases))
     print('%d cases' % len(cases))
 
 

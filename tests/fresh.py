@@ -12,7 +12,8 @@ import subprocess
 import sys
 import time
 
-import cases
+import kinds
+import machine
 import pages
 
 ROOT = os.path.join(os.path.dirname(os.path.abspath(__file__)), '..')
@@ -29,12 +30,12 @@ def run(data):
 
 def compare(seed, numbers):
     """None, or the first case whose output differs, as (number, what came)."""
-    made = [cases.fresh(seed, n) for n in numbers]
-    if run(cases.encoded(made)) == cases.expected(made):
+    made = [kinds.fresh(seed, n) for n in numbers]
+    if run(machine.encoded(made)) == machine.expected(made):
         return None
     for n, case in zip(numbers, made):
-        got = run(cases.encoded([case]))
-        if got != cases.expected([case]):
+        got = run(machine.encoded([case]))
+        if got != machine.expected([case]):
             return n, got
     return numbers[0], 'cases %d to %d differ only if they are run together\n' % (numbers[0], numbers[-1])
 
@@ -50,7 +51,7 @@ def main(args):
     while time.monotonic() < end:
         found = compare(seed, range(n, n + AT_ONCE))
         if found:
-            print('case %d of seed %s differs\n%sgot\n%s' % (found[0], seed, cases.describe(cases.fresh(seed, found[0])), found[1]))
+            print('case %d of seed %s differs\n%sgot\n%s' % (found[0], seed, machine.describe(kinds.fresh(seed, found[0])), found[1]))
             return 1
         n += AT_ONCE
         for _ in range(AT_ONCE if len(args) > 2 else 0):

@@ -10,7 +10,7 @@ import random
 import subprocess
 import sys
 
-import cases
+import kinds
 import reference as ref
 
 
@@ -22,7 +22,7 @@ def run(program, data):
 def differs(program, seed, n):
     """Input n of a seed: None, or (input, expected, got)."""
     rng = random.Random('page %s:%d' % (seed, n))
-    data = cases.page_input(rng)
+    data = kinds.page_input(rng)
     expected, got = ref.page(data), run(program, data)
     return None if expected == got else (data, expected, got)
 

@@ -1,5 +1,5 @@
 #!/usr/bin/env bash
-# The tests outside the gate: the text form, the references, the examples in other languages, and fresh random cases for some seconds.
+# The tests outside the gate: the text form, the references, the stored cases, the examples in other languages, and fresh random cases for some seconds.
 set -eu
 cd "$(dirname "$0")/.."
 export PYTHONDONTWRITEBYTECODE=1

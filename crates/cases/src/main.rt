@@ -1,35 +1,29 @@
 // Puts test cases from standard input to the calls, and prints what each call gives. tests/cases.py makes the input, and the output that is expected.
 //
-// A case is a row of commands. The head of a command is 20 bytes, five numbers of four bytes, low byte first: its kind, the low and the high half of
-// k, x, y. Two places are kept from command to command: the words of a book, and bytes (a policy or a record). Nothing that is read can make a
-// range wrong: every length is cut to the place that it is used on.
+// A case is a row of commands over two places, new for each case: the words of a book, none at first, and 40,960 bytes, each 77. A command is six
+// bytes: its kind (a letter), z, and x and y of two bytes each, low byte first. Its part is the bytes from x up to y, and k is the number of the first
+// eight bytes. Nothing that is read can make a range wrong: every end is cut to the place that it is used on.
 //
-//  0 prints k, the number of the case          6 ranks k policies, into x costs and y bytes
-//  1 reads x words, the book                   7 writes the record of k policies into x bytes, which are then the bytes
-//  2 reads x bytes                             8 accepts the bytes
-//  3 checks the book                           9 shows policy k of the bytes
-//  4 gives the least cost                     10 makes byte x of the bytes y
-//  5 values the bytes as a policy             11 makes the bytes x long
-// 13 prints the page of the bytes             12 looks up x to the power of y
-ghost use mathlib.Core.Path.{_≡_};
+//  e  ends the case                         l  gives the least cost
+//  i  reads the part from the input         v  values the part as a policy
+//  t  reads it, and prints it as text       d  looks up k to the power of z
+//  m  makes the part the book               a  accepts the part
+//  c  checks the book                       s  shows policy k of the part
+//  r  ranks k policies into z costs         b  shows it through a browser
+//     and the part                          p  prints the page of the part
+//  w  writes their record into the part
+//
+// A call prints its letter, then its number and two figures, 0 where it has none, and all that the lent slices hold after it (for w the z costs too);
+// s and b print the bytes that they show.
 ghost use Prim.Native.Nat.{_<_, _≤_};
-ghost use lib.ListN.{length};
 
 struct Head {
-    kind: u64,
+    kind: u8,
+    z: u8,
     k: usize,
     x: usize,
     y: usize,
 }
-
-// How many words and bytes are in use, and whether the input goes on.
-struct Kept {
-    words: usize,
-    bytes: usize,
-    more: bool,
-}
-
-// ---- numbers
 
 fn lesser(a: usize, b: usize) -> usize
     ensures { λ r. ⌜ (r ≤ a) × (r ≤ b) ⌝ }
@@ -37,353 +31,230 @@ fn lesser(a: usize, b: usize) -> usize
     if a < b { a } else { b }
 }
 
-fn wide(x: u8) -> u64
-    ensures { λ r. ⌜ r < 256 ⌝ }
-{
-    x as u64
+// ---- printing
+
+// A number that no call makes too large for its sign.
+fn figure(x: usize) -> i64 {
+    lesser(x, 9223372036854775807) as i64
 }
 
-fn low_byte(x: usize) -> u8 {
-    (x % 256) as u8
+fn print_signed(x: i64) {
+    if x < 0 {
+        io::write_all(1, b" -");
+    } else {
+        io::write_all(1, b" ");
+    }
+    io::print_decimal(1, text::magnitude(x));
 }
 
-// One more byte taken into a digest, a remainder by a prime below 2^55, so that no product wraps.
-fn digest_step(d: u64, x: u8) -> u64
+fn print_row(row: &[i64]) {
+    let mut i: usize = 0;
+    while i < row.len() {
+        print_signed(row[i]);
+        i = i + 1;
+    }
+    io::write_all(1, b"\n");
+}
+
+fn print_answer(kind: u8, answer: [i64; 3]) {
+    io::write_all(1, &[kind]);
+    print_row(&answer);
+}
+
+// Byte i of a slice, printed if it is among the first 32, and taken into a digest: a remainder by a prime below 2^55, so that no product wraps.
+fn print_byte(d: u64, i: usize, x: u8) -> u64
     requires { ⌜ d < 36028797018963913 ⌝ }
     ensures { λ r. ⌜ r < 36028797018963913 ⌝ }
 {
-    (d * 257 + wide(x) + 1) % 36028797018963913
+    if i < 32 {
+        print_signed(x as i64);
+    }
+    (d * 257 + x as u64 + 1) % 36028797018963913
 }
 
-fn digest(bytes: &[u8]) -> u64 {
+fn print_each(bytes: &[u8]) -> u64
+    ensures { λ r. ⌜ r < 36028797018963913 ⌝ }
+{
     let mut d: u64 = 0;
     let mut i: usize = 0;
     while i < bytes.len() {
-        d = digest_step(d, bytes[i]);
+        d = print_byte(d, i, bytes[i]);
         i = i + 1;
     }
     d
 }
 
-// ---- printing
-
-fn print_figure(x: u64) {
-    io::write_all(1, b" ");
-    io::print_decimal(1, x);
-}
-
-fn print_signed(x: i64) {
-    io::write_all(1, b" ");
-    if x < 0 {
-        io::write_all(1, b"-");
-    }
-    io::print_decimal(1, text::magnitude(x));
-}
-
-fn print_number(label: &[u8], no: u32) {
-    io::write_all(1, label);
-    print_figure(no as u64);
-}
-
-fn print_cost(label: &[u8], no: u32, cost: i64) {
-    print_number(label, no);
-    print_signed(cost);
-    io::write_all(1, b"\n");
-}
-
-fn print_costs(costs: &[i64]) {
-    io::write_all(1, b" costs");
-    let mut i: usize = 0;
-    while i < costs.len() {
-        print_signed(costs[i]);
-        i = i + 1;
-    }
-    io::write_all(1, b"\n");
-}
-
-fn print_byte(x: u8) {
-    print_figure(x as u64);
-}
-
-fn print_each(bytes: &[u8]) {
-    let mut i: usize = 0;
-    while i < bytes.len() {
-        print_byte(bytes[i]);
-        i = i + 1;
-    }
-    io::write_all(1, b"\n");
-}
-
-// A short slice in full, a longer one by its length and digest.
+// The length and the digest follow where not every byte is printed.
 fn print_bytes(bytes: &[u8]) {
-    if bytes.len() <= 128 {
-        io::write_all(1, b" bytes");
-        print_each(bytes);
-        return;
-    }
-    io::write_all(1, b" digest");
-    print_figure(bytes.len() as u64);
-    print_figure(digest(bytes));
-    io::write_all(1, b"\n");
-}
-
-// ---- the calls on a book
-
-fn run_check(b: &[i32]) {
-    print_number(b"check", check_book::check(b));
-    io::write_all(1, b"\n");
-}
-
-fn run_least(b: &[i32]) {
-    let v = least::least(b);
-    print_cost(b"least", v.no, v.cost);
-}
-
-fn run_value(b: &[i32], plan: &[u8]) {
-    let v = value::value(b, plan);
-    print_cost(b"value", v.no, v.cost);
-}
-
-// The list, and all that the two slices hold.
-fn rank_into(b: &[i32], k: usize, costs: &mut [i64], plans: &mut [u8]) {
-    let r = rank::rank(b, k, costs, plans);
-    print_number(b"rank", r.no);
-    print_figure(r.k as u64);
-    io::write_all(1, b"\n");
-    print_costs(costs);
-    print_bytes(plans);
-}
-
-fn cost_places() -> [i64; 80]
-    ensures { λ r. ⌜ length r ≡ 80 ⌝ }
-{
-    [77; 80]
-}
-
-fn plan_places() -> [u8; 4400]
-    ensures { λ r. ⌜ length r ≡ 4400 ⌝ }
-{
-    [77; 4400]
-}
-
-fn run_rank(b: &[i32], k: usize, x: usize, y: usize) {
-    let mut costs = cost_places();
-    let mut plans = plan_places();
-    let c = lesser(x, 80);
-    let p = lesser(y, 4400);
-    rank_into(b, k, &mut costs[0..c], &mut plans[0..p]);
-}
-
-fn fill(bytes: &mut [u8]) {
-    let mut i: usize = 0;
-    while i < bytes.len() {
-        bytes[i] = 77;
-        i = i + 1;
+    let d = print_each(bytes);
+    if 32 < bytes.len() {
+        io::write_all(1, b" ..");
+        print_row(&[figure(bytes.len()), d as i64]);
+    } else {
+        io::write_all(1, b"\n");
     }
 }
 
-fn write_into(b: &[i32], k: usize, out: &mut [u8]) -> usize {
-    let w = write::write(b, k, out);
-    print_number(b"write", w.no);
-    print_figure(w.length as u64);
+// ---- the calls
+
+// The number and the figures of a call that writes nothing.
+fn ask(h: Head, b: &[i32], part: &[u8]) -> [i64; 3] {
+    if h.kind == b'c' {
+        return [check_book::check(b) as i64, 0, 0];
+    }
+    if h.kind == b'l' {
+        let v = least::least(b);
+        return [v.no as i64, v.cost, 0];
+    }
+    if h.kind == b'v' {
+        let v = value::value(b, part);
+        return [v.no as i64, v.cost, 0];
+    }
+    if h.kind == b'a' {
+        let a = accept::accept(part);
+        return [a.no as i64, figure(a.s), figure(a.k)];
+    }
+    [0, figure(power::power(h.k, h.z as usize) as usize), 0]
+}
+
+fn lend(h: Head, b: &[i32], costs: &mut [i64], out: &mut [u8]) -> [i64; 3] {
+    if h.kind == b'r' {
+        let r = rank::rank(b, h.k, costs, out);
+        return [r.no as i64, figure(r.k), 0];
+    }
+    let w = write::write(b, h.k, out);
+    [w.no as i64, figure(w.length), 0]
+}
+
+fn lend_all(h: Head, b: &[i32], costs: &mut [i64], out: &mut [u8]) {
+    print_answer(h.kind, lend(h, b, costs, out));
+    print_row(costs);
     print_bytes(out);
-    w.length
 }
 
-// The record at the front of the bytes, and 77 in all that is not written.
-fn run_write(b: &[i32], k: usize, x: usize, bytes: &mut [u8]) -> usize {
-    fill(bytes);
-    let end = lesser(x, bytes.len());
-    write_into(b, k, &mut bytes[0..end])
+fn lend_part(h: Head, b: &[i32], costs: &mut [i64], out: &mut [u8]) {
+    let n = lesser(h.z as usize, costs.len());
+    lend_all(h, b, &mut costs[0..n], out);
 }
 
-fn run_power(d: usize, e: usize) {
-    io::write_all(1, b"power");
-    print_figure(power::power(d, e));
+fn run_lent(h: Head, b: &[i32], out: &mut [u8]) {
+    let mut costs = [77i64; 80];
+    lend_part(h, b, &mut costs, out);
+}
+
+// The page as the printing program would print it.
+fn page_into(input: &[u8], out: &mut [u8]) {
+    let m = page::print_page(input, out);
+    let end = lesser(m, out.len());
     io::write_all(1, b"\n");
+    io::write_all(1, &out[0..end]);
 }
 
-// ---- the calls on a record
-
-fn run_accept(r: &[u8]) {
-    let a = accept::accept(r);
-    print_number(b"accept", a.no);
-    print_figure(a.s as u64);
-    print_figure(a.k as u64);
-    io::write_all(1, b"\n");
-}
-
-fn run_show(r: &[u8], j: usize) {
-    io::write_all(1, b"show");
-    print_bytes(accept::show(r, j));
-}
-
-fn page_places() -> [u8; 90112]
-    ensures { λ r. ⌜ length r ≡ 90112 ⌝ }
-{
-    [77; 90112]
-}
-
-// The page of the bytes, as the printing program would print it.
-fn run_page(input: &[u8]) {
-    let mut out = page_places();
-    let m = page::print_page(input, &mut out);
-    io::write_all(1, b"page");
-    print_figure(m as u64);
-    io::write_all(1, b"\n");
-    io::write_all(1, &out[..m]);
-}
-
-fn run_case(k: usize) {
-    io::write_all(1, b"case");
-    print_figure(k as u64);
-    io::write_all(1, b"\n");
-}
-
-// ---- reading
-
-fn raw_book() -> [u8; 17200]
-    ensures { λ r. ⌜ length r ≡ 17200 ⌝ }
-{
-    [0; 17200]
-}
-
-// As many whole words as the input and the two slices hold, to the front of `words`.
-fn words_from(raw: &mut [u8], words: &mut [i32]) -> usize {
-    let got = io::read_full(0, raw);
-    let n = lesser(lesser(got, raw.len()) / 4, words.len());
-    bytes_io::read_words(raw, 0, n, words);
-    n
-}
-
-fn read_book(x: usize, words: &mut [i32]) -> usize {
-    let mut raw = raw_book();
-    let n = lesser(x, 4300);
-    words_from(&mut raw[0..4 * n], words)
-}
-
-fn read_bytes(x: usize, bytes: &mut [u8]) -> usize {
-    let end = lesser(x, bytes.len());
-    io::read_full(0, &mut bytes[0..end])
-}
-
-fn store(bytes: &mut [u8], at: usize, x: u8) {
-    if at < bytes.len() {
-        bytes[at] = x;
+fn print_part(h: Head, part: &[u8]) {
+    io::write_all(1, &[h.kind]);
+    if h.kind == b's' {
+        print_bytes(accept::show(part, h.k));
+    } else if h.kind == b'b' {
+        print_bytes(browse::browse(part, h.k));
+    } else {
+        let mut out = [77u8; 90112];
+        page_into(part, &mut out);
     }
 }
 
 // ---- commands
 
-fn head_of(b: &[u8; 20]) -> Head {
-    let low = bytes_io::read4(b, 4);
-    let high = bytes_io::read4(b, 8);
+fn book_of(part: &[u8], words: &mut [i32]) -> usize {
+    let n = lesser(part.len() / 4, words.len());
+    bytes_io::read_words(part, 0, n, words);
+    n
+}
+
+fn read(h: Head, part: &mut [u8]) {
+    io::read_full(0, part);
+    if h.kind == b't' {
+        io::write_all(1, part);
+    }
+}
+
+fn call(h: Head, b: &[i32], part: &mut [u8]) {
+    if h.kind == b'i' || h.kind == b't' {
+        read(h, part);
+    } else if h.kind == b'r' || h.kind == b'w' {
+        run_lent(h, b, part);
+    } else if h.kind == b's' || h.kind == b'b' || h.kind == b'p' {
+        print_part(h, part);
+    } else {
+        print_answer(h.kind, ask(h, b, part));
+    }
+}
+
+// Of the words n are in use.
+fn call_part(h: Head, n: usize, words: &[i32], part: &mut [u8]) {
+    let end = lesser(n, words.len());
+    call(h, &words[0..end], part);
+}
+
+// Gives how many words are then in use.
+fn act(h: Head, n: usize, words: &mut [i32], part: &mut [u8]) -> usize {
+    if h.kind == b'm' {
+        return book_of(part, words);
+    }
+    call_part(h, n, words, part);
+    n
+}
+
+fn obey(h: Head, n: usize, words: &mut [i32], bytes: &mut [u8]) -> usize {
+    let end = lesser(h.y, bytes.len());
+    let from = lesser(h.x, end);
+    act(h, n, words, &mut bytes[from..end])
+}
+
+fn low_number(bytes: &[u8]) -> usize {
+    if bytes.len() < 8 {
+        return 0;
+    }
+    (bytes_io::read4(bytes, 0) + 4294967296 * bytes_io::read4(bytes, 4)) as usize
+}
+
+// At the end of the input the bytes stay as they are here: the case ends, with z = 1.
+fn next_head(bytes: &[u8]) -> Head {
+    let mut b = [b'e', 1, 0, 0, 0, 0];
+    io::read_full(0, &mut b);
+    let ends = bytes_io::read4(&b, 2);
     Head {
-        kind: bytes_io::read4(b, 0),
-        k: (low + 4294967296 * high) as usize,
-        x: bytes_io::read4(b, 12) as usize,
-        y: bytes_io::read4(b, 16) as usize,
+        kind: b[0],
+        z: b[1],
+        k: low_number(bytes),
+        x: (ends % 65536) as usize,
+        y: (ends / 65536) as usize,
     }
 }
 
-// A command that changes neither place.
-fn ask(h: Head, b: &[i32], bytes: &[u8]) {
-    if h.kind == 0 {
-        run_case(h.k);
-    } else if h.kind == 3 {
-        run_check(b);
-    } else if h.kind == 4 {
-        run_least(b);
-    } else if h.kind == 5 {
-        run_value(b, bytes);
-    } else if h.kind == 6 {
-        run_rank(b, h.k, h.x, h.y);
-    } else if h.kind == 8 {
-        run_accept(bytes);
-    } else if h.kind == 9 {
-        run_show(bytes, h.k);
-    } else if h.kind == 12 {
-        run_power(h.x, h.y);
-    } else if h.kind == 13 {
-        run_page(bytes);
-    }
-}
-
-fn ask_kept(h: Head, kept: Kept, words: &[i32], bytes: &[u8]) {
-    let w = lesser(kept.words, words.len());
-    let n = lesser(kept.bytes, bytes.len());
-    ask(h, &words[0..w], &bytes[0..n]);
-}
-
-fn write_kept(h: Head, kept: Kept, words: &[i32], bytes: &mut [u8]) -> usize {
-    let w = lesser(kept.words, words.len());
-    run_write(&words[0..w], h.k, h.x, bytes)
-}
-
-fn with_bytes(kept: Kept, n: usize) -> Kept {
-    Kept {
-        words: kept.words,
-        bytes: n,
-        more: true,
-    }
-}
-
-fn obey(h: Head, kept: Kept, words: &mut [i32], bytes: &mut [u8]) -> Kept {
-    if h.kind == 1 {
-        let n = read_book(h.x, words);
-        return Kept {
-            words: n,
-            bytes: kept.bytes,
-            more: true,
-        };
-    }
-    if h.kind == 2 {
-        return with_bytes(kept, read_bytes(h.x, bytes));
-    }
-    if h.kind == 7 {
-        return with_bytes(kept, write_kept(h, kept, words, bytes));
-    }
-    if h.kind == 10 {
-        store(bytes, h.x, low_byte(h.y));
-        return kept;
-    }
-    if h.kind == 11 {
-        return with_bytes(kept, h.x);
-    }
-    ask_kept(h, kept, words, bytes);
-    kept
-}
-
-// The input ends at a command whose head is not whole.
-fn step(kept: Kept, words: &mut [i32], bytes: &mut [u8]) -> Kept {
-    let mut head = [0u8; 20];
-    let got = io::read_full(0, &mut head);
-    if got < 20 {
-        return Kept {
-            words: 0,
-            bytes: 0,
-            more: false,
-        };
-    }
-    obey(head_of(&head), kept, words, bytes)
-}
-
-// Nothing says that the input ends, so the commands are counted down from a number that no input uses up.
-fn run_all(words: &mut [i32], bytes: &mut [u8]) {
-    let mut kept = Kept {
-        words: 0,
-        bytes: 0,
-        more: true,
-    };
+// Does the input go on after the case? Nothing says that it ends, so the commands are counted down from a number that no input uses up.
+fn run_commands(words: &mut [i32], bytes: &mut [u8]) -> bool {
+    let mut n: usize = 0;
     let mut left = u64::MAX;
-    while left > 0 && kept.more {
-        kept = step(kept, words, bytes);
+    while left > 0 {
+        let h = next_head(bytes);
+        if h.kind == b'e' {
+            return h.z == 0;
+        }
+        n = obey(h, n, words, bytes);
         left = left - 1;
     }
+    false
+}
+
+fn run_case() -> bool {
+    let mut words = [0i32; 4300];
+    let mut bytes = [77u8; 40960];
+    run_commands(&mut words, &mut bytes)
 }
 
 fn main() {
-    let mut words = [0i32; 4300];
-    let mut bytes = [0u8; 24000];
-    run_all(&mut words, &mut bytes);
+    let mut left = u64::MAX;
+    while left > 0 && run_case() {
+        left = left - 1;
+    }
 }

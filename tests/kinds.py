@@ -1,0 +1,279 @@
+"""Random cases of many kinds, for fresh.py and pages.py; cases.py stores a few of them. Case N of a seed is drawn from these two only."""
+
+import random
+
+import books
+import machine
+import reference as ref
+import search
+from machine import BOOK, OUT, Case, Command, accept, book_bytes, head, page, put, rank, show, value, write
+
+MOST_INPUT = machine.PLACES - BOOK + 4
+
+
+def some_count(rng, plans):
+    """K: small, near the number of plans, or any."""
+    return max(1, min(64, rng.choice([1, 2, 3, rng.randint(1, 12), rng.randint(1, 64), 64, plans - 1, plans, plans + 1])))
+
+
+def bad_count(rng):
+    return rng.choice([0, 65, 66, 255, 256, 2 ** 31, 2 ** 32 - 1, 2 ** 32, 2 ** 32 + 3, 2 ** 63, 2 ** 64 - 1])
+
+
+# ---- books that are accepted
+
+def values(rng, words):
+    """Some plans of the book, and slices that are none."""
+    listed = ref.in_order(tuple(words))
+    for _ in range(rng.randint(1, 3)):
+        yield from value(rng.choice(listed)[1])
+    for _ in range(rng.randint(1, 2)):
+        yield from value(books.bent_plan(rng, words, rng.choice(listed)[1]))
+
+
+def some_rank(rng, k, posts):
+    """Rooms that fit, or that are one short, or longer."""
+    return rank(k, max(0, k + rng.choice([0, 0, 0, 1, 3, -1])), max(0, k * posts + rng.choice([0, 0, 0, 1, 5, -1])))
+
+
+def changed_bytes(rng, record, words, k):
+    """Bytes of a record to change, from each of its parts: (place, new byte)."""
+    w = len(words)
+    parts = [(0, 4), (4, 8), (8, 12), (12, 12 + 4 * w), (12 + 4 * w, 12 + 4 * w + 8 * k), (12 + 4 * w + 8 * k, len(record))]
+    for _ in range(rng.randint(2, 5)):
+        low, high = rng.choice(parts)
+        at = rng.randrange(low, high)
+        yield at, rng.choice([record[at] ^ 1 << rng.randrange(8), (record[at] + 1) % 256, (record[at] - 1) % 256, rng.randrange(256)])
+
+
+def carried_feasible(record):
+    w = int.from_bytes(record[:4], 'little')
+    return w > ref.LONGEST_BOOK or books.feasible(ref.words_of(record[12:12 + 4 * w]))
+
+
+def record_changes(rng, words, most):
+    """The record's bytes changed, one place at a time, each put back after it is asked; then other lengths."""
+    record = ref.record(words, most)
+    k, n = int.from_bytes(record[8:12], 'little'), len(record)
+    changes = list(changed_bytes(rng, record, words, k))
+    changes += [(at, rng.choice([0, 1, now - 1, now + 1, k, k + 1, 64, 65, 255]) % 256) for at, now in ((4, most), (8, k))]
+    for at, x in changes:
+        other = bytearray(record)
+        other[at] = x
+        if carried_feasible(other):
+            yield from (put([x], OUT + at), accept(n))
+            yield from show(rng.randrange(k), n) if rng.random() < 0.3 else ()
+            yield put([record[at]], OUT + at)
+    sizes = [0, 11, 12, 12 + 4 * len(words) - 1, 12 + 4 * len(words), n - 1, n + 1, n + 8, rng.randrange(n)]
+    yield from (accept(size) for size in rng.sample(sizes, 2))
+
+
+def good(rng, words):
+    """All calls on a book, where ranking needs no enumeration that is too long."""
+    yield from machine.book(words)
+    yield from (Command('check'), Command('least'))
+    if ref.check(words):
+        return
+    posts, listed = ref.Book(words).posts, ref.in_order(tuple(words))
+    yield from values(rng, words)
+    yield some_rank(rng, some_count(rng, len(listed)), posts)
+    most = some_count(rng, len(listed))
+    n = len(ref.record(words, most))
+    if rng.random() < 0.2:
+        yield from (write(most, n - 1), accept(n - 1))
+    yield from (write(most, n + rng.choice([0, 0, 1, 30])), accept(n))
+    k = min(most, len(listed))
+    for j in sorted({0, rng.randrange(k), k, rng.choice([k - 1, k + 1, 2 ** 32, 2 ** 64 - 1])}):
+        yield from show(j, n)
+    yield from record_changes(rng, words, most)
+
+
+def vast(rng):
+    """All calls on a book that has too many plans to enumerate."""
+    words = books.vast(rng)
+    most = rng.choice([64, 64, rng.randint(2, 63)])
+    with search.instead_of_enumeration():
+        listed, record = ref.ranking(words, most), ref.record(words, most)
+    n = len(record)
+    yield from machine.book(words)
+    yield from (Command('check'), Command('least'), rank(most, most, most * 64))
+    for plan in (listed[-1][1], rng.choice(listed)[1], books.bent_plan(rng, words, listed[0][1])):
+        yield from value(plan)
+    yield from (write(most, n), accept(n))
+    yield from show(len(listed) - 1, n) + show(len(listed), n)
+    for _ in range(3):
+        at = rng.randrange(12 + 4 * len(words), n)
+        yield from (put([record[at] ^ 1], OUT + at), accept(n), put([record[at]], OUT + at))
+    yield accept(n - 1)
+
+
+def bad_counts(rng):
+    """A good book with counts that are not allowed, and rooms that are short too."""
+    words = books.draw(rng, rng.choice(books.SHAPES))
+    yield from machine.book(words)
+    posts = 3 if ref.check(words) else ref.Book(words).posts
+    for _ in range(3):
+        k = bad_count(rng)
+        yield from (rank(k, rng.choice([0, 70]), rng.choice([0, 4300])), write(k, rng.choice([0, 900])))
+    k = rng.randint(1, 64)
+    yield from (rank(k, k - 1, rng.choice([0, k * posts])), rank(k, k, k * posts - 1), write(k, rng.choice([0, 5, 12])))
+
+
+# ---- books that are refused, and records that carry them
+
+def carried(words, most, k, tail=b''):
+    """All calls on a book that is refused or on a count that is; the book is carried by a record, and K = k stands before it for the page."""
+    content = head(words, most % 2 ** 32, k) + book_bytes(words) + tail
+    yield put(content, BOOK - 12)
+    yield from (Command('book', BOOK, BOOK + 4 * len(words)), Command('check'), Command('least'), Command('value', OUT, OUT + 3))
+    yield from (rank(most, 3, 9), write(most, 20), accept(len(content), BOOK - 12))
+    yield from show(0, len(content), BOOK - 12)
+    yield page(4 + 4 * len(words))
+
+
+def faulty(rng, faults):
+    words = books.draw(rng, rng.choice([books.small, books.few, books.wide, books.edge]))
+    if ref.check(words):
+        return words
+    for _ in range(50):
+        other = books.broken(rng, words, faults)
+        if books.feasible(other):
+            return other
+    return words
+
+
+def refused(rng, words):
+    most = rng.choice([3, 64, bad_count(rng)])
+    tail = bytes(rng.randrange(256) for _ in range(rng.choice([0, 8, 11])))
+    return carried(words, most, rng.choice([0, 1, 2, most % 2 ** 32]), tail)
+
+
+def wild(rng):
+    words = books.wild(rng)
+    return refused(rng, words) if books.feasible(words) else powers(rng)
+
+
+def noise(rng):
+    """Random bytes as a record, some with a head that fits them."""
+    kind = rng.randrange(4)
+    if kind == 0:
+        content = bytes(rng.randrange(256) for _ in range(rng.randrange(60)))
+    elif kind == 1:
+        w = rng.randrange(12)
+        content = machine.little(w, 4) + bytes(rng.randrange(4) for _ in range(8 + 4 * w + rng.choice([-1, 0, 1, 9])))
+    elif kind == 2:
+        content = machine.little(rng.choice([4172, 4173, 2 ** 32 - 1, 2 ** 30, 2 ** 30 + 1]), 4) + bytes(rng.choice([8, 20, 200]))
+    else:
+        words = books.wild(rng)
+        content = head(words, rng.randrange(70), rng.randrange(4)) + book_bytes(words) + bytes(rng.randrange(30))
+    yield from (put(content), accept(len(content)))
+    yield from show(rng.randrange(3), len(content))
+
+
+def as_record(words, most, k, listed):
+    """The bytes of a record with any k, costs and plans."""
+    costs = b''.join(cost.to_bytes(8, 'little', signed=True) for cost, _ in listed)
+    return head(words, most, k) + book_bytes(words) + costs + b''.join(bytes(plan) for _, plan in listed)
+
+
+def forged_lists(words, most):
+    """Records whose sizes fit and whose list is another: short by one plan, empty, with a plan twice, in another order, with a plan that belongs later,
+    with a cost that is not the plan's; and the record itself."""
+    listed = ref.in_order(tuple(words))
+    best = listed[:most]
+    for other in (best[:-1], [], best + best[-1:], best[:-1] + best[:1], best[1:2] + best[:1] + best[2:], best[:-1] + listed[-1:],
+                  [(best[0][0] + 1, best[0][1])] + best[1:], [(best[0][0], best[1][1])] + best[1:], best):
+        content = as_record(words, most, len(other), other)
+        yield from (put(content), accept(len(content)))
+        yield from show(0, len(content))
+
+
+def forged(rng):
+    listed = []
+    while len(listed) < 3:
+        words = books.draw(rng, rng.choice([books.small, books.ties, books.few]))
+        listed = [] if ref.check(words) else ref.in_order(tuple(words))
+    return forged_lists(words, min(64, rng.choice([2, 3, 5, len(listed), len(listed) + 1])))
+
+
+def longest(rng):
+    """W at its bound and one beyond, with all the bytes that it asks for, each 77."""
+    for w in (4172, 4173):
+        yield put(machine.little(w, 4))
+        yield from (accept(12 + 4 * w), accept(12 + 4 * w - 1), accept(12 + 4 * w + rng.randrange(9)))
+
+
+def powers(rng):
+    for _ in range(20):
+        yield Command('power', k=rng.choice([rng.randrange(110), 0, 1, 100, 101, 2 ** 32 - 1]), z=rng.choice([rng.randrange(12), 0, 8, 9, 255]))
+
+
+# ---- input of the printing program
+
+def any_input(rng):
+    """K and a book; or too few bytes, a leftover, a fault, or more than is read."""
+    kind = rng.randrange(12)
+    if kind == 0:
+        return bytes(rng.randrange(256) for _ in range(rng.randrange(9)))
+    words = books.draw(rng, rng.choice(books.SHAPES + [books.large] if rng.random() < 0.1 else books.SHAPES))
+    k = rng.choice([1, 2, 3, 64, rng.randint(1, 64)])
+    if kind == 1:
+        k = rng.choice([0, 65, 256, 2 ** 31, 2 ** 32 - 1])
+    if kind in (2, 3):
+        words = faulty(rng, rng.sample(books.BREAKS, rng.randint(1, 3)))
+    data = machine.little(k, 4) + book_bytes(words)
+    if kind == 4:
+        return data + bytes(rng.randint(1, 3))
+    if kind == 5:
+        return data[:rng.randrange(len(data))]
+    if kind == 6:
+        return data + bytes(rng.choice([4, 16696, 16696 - len(data), 16697 - len(data), 16699 - len(data), 40000]))
+    return data
+
+
+def input_feasible(data):
+    data = data[:16696]
+    return len(data) % 4 > 0 or len(data) < 4 or books.feasible(ref.words_of(data[4:]))
+
+
+def page_input(rng):
+    while True:
+        found = any_input(rng)
+        if input_feasible(found):
+            return found
+
+
+def some_page(rng):
+    content = page_input(rng)[:MOST_INPUT]
+    yield from (put(content, BOOK - 4), page(len(content)))
+
+
+# ---- which kinds there are
+
+def good_of(shape):
+    return lambda rng: good(rng, books.draw(rng, shape))
+
+
+def fault(n):
+    return lambda rng: refused(rng, faulty(rng, [books.BREAKS[n - 1]]))
+
+
+def faults(rng):
+    return refused(rng, faulty(rng, rng.sample(books.BREAKS, rng.randint(2, 4))))
+
+
+SHAPES = {'small': 250, 'deep': 130, 'wide': 56, 'ties': 140, 'few': 150, 'unreached': 80, 'crossing': 110, 'many': 30, 'edge': 80, 'large': 10, 'full': 4}
+KINDS = {name: (weight, good_of(getattr(books, name))) for name, weight in SHAPES.items()}    # how often each is drawn, and how it is made
+KINDS.update({'fault %d' % n: (36, fault(n)) for n in range(1, 14)})
+KINDS.update({'vast': (12, vast), 'faults': (200, faults), 'wild': (60, wild), 'bad counts': (60, bad_counts), 'noise': (140, noise),
+              'forged': (36, forged), 'longest': (4, longest), 'powers': (10, powers), 'page': (200, some_page)})
+
+
+def make(seed, n, name):
+    return Case('%s:%d %s' % (seed, n, name), list(KINDS[name][1](random.Random('%s:%d' % (seed, n)))), name == 'vast')
+
+
+def fresh(seed, n):
+    """Case n of a seed, of a kind that is drawn by its weight."""
+    rng = random.Random('kind %s:%d' % (seed, n))
+    return make(seed, n, rng.choices(list(KINDS), [weight for weight, _ in KINDS.values()])[0])

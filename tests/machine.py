@@ -1,0 +1,185 @@
+"""The commands of the program `cases`, as its head lists them, and what it has to print for them by reference.py."""
+
+import collections
+import contextlib
+
+import reference as ref
+import search
+
+KINDS = {'end': 'e', 'read': 'i', 'text': 't', 'book': 'm', 'rank': 'r', 'write': 'w', 'check': 'c', 'least': 'l', 'value': 'v', 'power': 'd', 'accept': 'a',
+         'show': 's', 'browse': 'b', 'page': 'p'}
+PLACES, MOST_COSTS, FILL = 40960, 80, 77
+OUT, BOOK, TEXT = 8, 21504, 38400    # after k: where lent slices and records are put, books, and plans and titles
+PRINTED = 32
+PRIME = 2 ** 55 - 55
+
+# k is None where the command has no use for it
+Command = collections.namedtuple('Command', 'kind x y z k payload', defaults=(0, 0, 0, None, b''))
+
+# vast: the book has too many plans to enumerate, and search.py gives the list
+Case = collections.namedtuple('Case', 'title commands vast', defaults=(False,))
+
+
+def little(n, size):
+    return n.to_bytes(size, 'little')
+
+
+def book_bytes(words):
+    return b''.join(word.to_bytes(4, 'little', signed=True) for word in words)
+
+
+def head(words, most, k):
+    """The first 12 bytes of a record."""
+    return little(len(words), 4) + little(most, 4) + little(k, 4)
+
+
+# ---- commands
+
+def put(content, at=OUT):
+    content = bytes(content)
+    return Command('read', at, at + len(content), payload=content)
+
+
+def book(words):
+    """The bytes before the book, if there are any, make it a record or an input of the printing program."""
+    return [put(book_bytes(words), BOOK), Command('book', BOOK, BOOK + 4 * len(words))]
+
+
+def value(plan, at=TEXT):
+    return [put(plan, at), Command('value', at, at + len(plan))]
+
+
+def rank(k, places, room):
+    return Command('rank', OUT, OUT + room, places, k)
+
+
+def write(k, room):
+    return Command('write', OUT, OUT + room, k=k)
+
+
+def accept(length, at=OUT):
+    return Command('accept', at, at + length)
+
+
+def show(j, length, at=OUT):
+    return [Command(kind, at, at + length, k=j) for kind in ('show', 'browse')]
+
+
+def page(length, at=BOOK - 4):
+    return Command('page', at, at + length)
+
+
+# ---- the input
+
+def encode(c):
+    return KINDS[c.kind].encode() + little(c.z, 1) + little(c.x, 2) + little(c.y, 2) + c.payload
+
+
+def whole(case):
+    """The commands with the title before them, and with k put where it changes."""
+    k = None
+    yield put(case.title.encode() + b'\n', TEXT)._replace(kind='text')
+    for c in case.commands:
+        if c.k not in (None, k):
+            k = c.k
+            yield put(little(k, 8), 0)
+        yield c
+    yield Command('end')
+
+
+def encoded(cases):
+    return b''.join(encode(c) for case in cases for c in whole(case))
+
+
+# ---- what the program has to print
+
+def row(*figures):
+    return ''.join(' %d' % x for x in figures) + '\n'
+
+
+def bytes_row(content):
+    if len(content) <= PRINTED:
+        return row(*content)
+    digest = 0
+    for x in content:
+        digest = (digest * 257 + x + 1) % PRIME
+    return row(*content[:PRINTED])[:-1] + ' ..' + row(len(content), digest)
+
+
+class Machine:
+    """The two places of a case. A call prints its number and two figures, then all of the lent slices."""
+
+    def __init__(self):
+        self.words, self.bytes = [], bytearray([FILL]) * PLACES
+
+    def run(self, c):
+        text = getattr(self, c.kind)(c, bytes(self.bytes[c.x:c.y]))
+        return '' if text is None else text if c.kind == 'text' else KINDS[c.kind] + text
+
+    def end(self, c, part):
+        pass
+
+    def read(self, c, part):
+        self.bytes[c.x:c.y] = c.payload
+
+    def text(self, c, part):
+        self.bytes[c.x:c.y] = c.payload
+        return c.payload.decode()
+
+    def book(self, c, part):
+        self.words = ref.words_of(part)
+
+    def lend(self, call, c, part):
+        costs, lent = [FILL] * min(c.z, MOST_COSTS), bytearray(part)
+        figures = call(costs, lent)
+        self.bytes[c.x:c.y] = lent
+        return row(*figures, 0) + row(*costs) + bytes_row(lent)
+
+    def rank(self, c, part):
+        return self.lend(lambda costs, plans: ref.rank(self.words, c.k, costs, plans), c, part)
+
+    def write(self, c, part):
+        return self.lend(lambda costs, lent: ref.write(self.words, c.k, lent), c, part)
+
+    def check(self, c, part):
+        return row(ref.check(self.words), 0, 0)
+
+    def least(self, c, part):
+        return row(*ref.least(self.words), 0)
+
+    def value(self, c, part):
+        return row(*ref.value(self.words, part), 0)
+
+    def power(self, c, part):
+        return row(0, c.k ** c.z if 1 <= c.k <= 100 and c.z <= 8 else 0, 0)
+
+    def accept(self, c, part):
+        return row(*ref.accept(part))
+
+    def show(self, c, part):
+        return bytes_row(ref.show(part, c.k))
+
+    browse = show
+
+    def page(self, c, part):
+        return '\n' + ref.page(part).decode()
+
+
+def transcript(case):
+    """Each command of a case with what it prints."""
+    machine = Machine()
+    with search.instead_of_enumeration() if case.vast else contextlib.nullcontext():
+        return [(c, machine.run(c)) for c in whole(case)]
+
+
+def expected(cases):
+    return ''.join(text for case in cases for _, text in transcript(case))
+
+
+def describe(case):
+    out = []
+    for c, text in transcript(case):
+        figures = ''.join(' %s=%d' % (name, n) for name, n in zip('xyzk', c[1:5]) if n)
+        content = ''.join(' %d' % x for x in (ref.words_of(c.payload) if c.x == BOOK else c.payload))
+        out.append('> ' + c.kind + figures + content + '\n' + text)
+    return ''.join(out)
