@@ -50,6 +50,8 @@ TABLE = [
     (9, 'value', (book_a(scale=3), (1, 0, 255)), 12),
     (10, 'check', (book_of_tour_10(44),), 'accepted'),
     (10, 'check', (book_of_tour_10(45),), 13),
+    (10, 'least', (book_of_tour_10(45),), 13),
+    (10, 'value', (book_of_tour_10(45), (0,) * 9), 13),
     (11, 'write', (book_a(), 3, 122), 'written'),
     (11, 'write', (book_a(), 3, 121), 18),
     (12, 'accept', (record_of_a(2),), 'accepted'),
