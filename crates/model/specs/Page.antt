@@ -1,7 +1,7 @@
--- The printed page: from the bytes of standard input to those of standard output.
+-- The programs: from the bytes of standard input to those of standard output.
 -- Assumes nothing.
 use Prim.Native.Nat.{ℕ, zero, suc, _+_, _-_, _^_, _/_, _%_}
-use mathlib.Core.Bool.{_&&_, cond}
+use mathlib.Core.Bool.{Bool, _&&_, cond}
 use mathlib.Core.List.{List, [], _∷_, _++_}
 use lib.IntN.{ℤ, pos, negsuc}
 use lib.Dec.{eqb, leb, ltb}
@@ -12,7 +12,8 @@ use Rattle.model.specs.Model.{Words, scale, horizon}
 use Rattle.model.specs.Policy.{Policy}
 use Rattle.model.specs.Path.{policyCost}
 use Rattle.model.specs.Order.{ranking}
-use Rattle.model.specs.Record.{askedNumber}
+use Rattle.model.specs.Record.{recordBytes, carriedK, carriedBook, askedNumber, acceptNumber}
+use Rattle.model.specs.Calls.{over}
 
 -- a number in base ten, of at most f digits
 abbrev pub digits : ℕ → ℕ → List ℕ
@@ -49,18 +50,59 @@ titleLine ws k =
 abbrev pub refusedLine : ℕ → List ℕ
 refusedLine n = (114 ∷ 101 ∷ 102 ∷ 117 ∷ 115 ∷ 101 ∷ 100 ∷ 32 ∷ []) ++ decimal n ++ (10 ∷ [])
 
--- the page for a book and K, or the refusal
-unfoldable pub bookPage : Words → ℕ → List ℕ
-bookPage ws k = pageOf (askedNumber ws k)
-  where
-    pageOf : ℕ → List ℕ
-    pageOf zero = titleLine ws k ++ policyLines ws 1 (ranking ws k)
-    pageOf (suc n) = refusedLine (suc n)
+-- the bytes that are due where no question is answered no, else "`refused` and its number"
+abbrev pub orRefused : ℕ → List ℕ → List ℕ
+orRefused zero due = due
+orRefused (suc n) due = refusedLine (suc n)
 
--- "Only the first 16,696 bytes count"; "Fewer than four bytes, or a leftover of one to three, prints `refused 1`."
+-- the list of a book and K
+unfoldable pub listPage : Words → ℕ → List ℕ
+listPage ws k = titleLine ws k ++ policyLines ws 1 (ranking ws k)
+
+-- ---- the bytes that a program reads: "K (four bytes, unsigned), then a book"
+
+-- "Only the first 16,696 bytes count (one word beyond the longest book)"
+abbrev pub mostInput : ℕ
+mostInput = 16696
+
+-- "Fewer than four bytes, or a leftover of one to three, prints `refused 1`."
+abbrev pub wholeWords : List ℕ → Bool
+wholeWords read = leb 4 (length read) && eqb (length read % 4) 0
+
+unfoldable pub inputCount : List ℕ → ℕ
+inputCount input = fromBytes (take 4 (take mostInput input))
+
+unfoldable pub inputBook : List ℕ → Words
+inputBook input = wordsOf (length (take mostInput input) / 4 - 1) (drop 4 (take mostInput input))
+
+unfoldable pub inputNumber : List ℕ → ℕ
+inputNumber input = cond (wholeWords (take mostInput input)) (askedNumber (inputBook input) (inputCount input)) 1
+
+-- ---- the three programs: from the bytes read to the bytes written
+
+-- K and a book in, the printed page out
 unfoldable pub page : List ℕ → List ℕ
-page input =
-    let read : List ℕ = take 16696 input in
-    cond (leb 4 (length read) && eqb (length read % 4) 0)
-    (bookPage (wordsOf (length read / 4 - 1) (drop 4 read)) (fromBytes (take 4 read)))
-    (refusedLine 1)
+page input = orRefused (inputNumber input) (listPage (inputBook input) (inputCount input))
+
+-- K and a book in, the record out
+unfoldable pub filed : List ℕ → List ℕ
+filed input = orRefused (inputNumber input) (recordBytes (inputBook input) (inputCount input))
+
+-- a record in, the page of the K and the book that it carries out
+unfoldable pub recordPage : List ℕ → List ℕ
+recordPage bs = orRefused (acceptNumber bs) (listPage (carriedBook bs) (carriedK bs))
+
+-- ---- a text at the front of a lent slice that has `most` places or more; a shorter one gets nothing
+
+-- no page is longer; no record is longer
+abbrev pub mostPage : ℕ
+mostPage = 90112
+
+abbrev pub mostRecord : ℕ
+mostRecord = 21308
+
+unfoldable pub putLength : ℕ → List ℕ → ℕ → ℕ
+putLength most text room = cond (leb most room) (length text) 0
+
+unfoldable pub putSlice : ℕ → List ℕ → List ℕ → List ℕ
+putSlice most text slice = cond (leb most (length slice)) (over text slice) slice

@@ -14,7 +14,7 @@ use Rattle.model.specs.Path.{taken, paths, policyCost}
 use Rattle.model.specs.Recursion.{leastCostToGo}
 use Rattle.model.specs.Order.{comesBefore, ranking, rankingCosts}
 use Rattle.model.specs.Record.{listBytes, recordBytes, carriedLength, carriedK, carriedCount, carriedBook, listStart, askedNumber, acceptNumber}
-use Rattle.model.specs.Page.{decimal, policyLine, policyLines, titleLine, bookPage, page}
+use Rattle.model.specs.Page.{decimal, policyLine, policyLines, titleLine, listPage, inputCount, inputBook, inputNumber, page}
 use Rattle.model.specs.Calls.{Room, valueNumber, valueCost, leastCost, rankNumber, rankCount, rankCosts, rankPlans, writeNumber, writeLength, writeRecord, acceptStates, acceptCount}
 use Rattle.tours.specs.Answer.{Call, check, value, rank, write, accept, print, Answer, refused, good, listed, slice, record-of, printed, answer}
 
@@ -126,5 +126,5 @@ tours =
     ∷ []
 
 pub yield : map (λ (t : Tour). answer (t .call)) tours ≡ map (λ (t : Tour). t .due) tours
-unfolding word scale horizon lineCount stageSize firstState stateCount stage togo actionCount left right branches lineAfter skip stateLine actionLine transitionAt readAction action options firstNo sizesAllowed lengthAllowed countAllowed countsAllowed everyAction branchesAllowed linesAllowed costAllowed nextsAllowed weightSum weightsAllowed largestCost costsBounded bookNumber isPolicy policies taken paths policyCost leastCostToGo comesBefore ranking rankingCosts listBytes recordBytes carriedLength carriedK carriedCount carriedBook listStart askedNumber acceptNumber decimal policyLine policyLines titleLine bookPage page valueNumber valueCost leastCost rankNumber rankCount rankCosts rankPlans writeNumber writeLength writeRecord acceptStates acceptCount
+unfolding word scale horizon lineCount stageSize firstState stateCount stage togo actionCount left right branches lineAfter skip stateLine actionLine transitionAt readAction action options firstNo sizesAllowed lengthAllowed countAllowed countsAllowed everyAction branchesAllowed linesAllowed costAllowed nextsAllowed weightSum weightsAllowed largestCost costsBounded bookNumber isPolicy policies taken paths policyCost leastCostToGo comesBefore ranking rankingCosts listBytes recordBytes carriedLength carriedK carriedCount carriedBook listStart askedNumber acceptNumber decimal policyLine policyLines titleLine listPage inputCount inputBook inputNumber page valueNumber valueCost leastCost rankNumber rankCount rankCosts rankPlans writeNumber writeLength writeRecord acceptStates acceptCount
 yield = refl

@@ -1,60 +1,72 @@
--- The first 16,696 bytes count.
+-- The refusal, or the list of the book that was read.
 -- Assumes nothing.
-use mathlib.Core.Path.{_≡_, refl, sym}
+use mathlib.Core.Path.{_≡_, sym, ap₂, _∙_}
 use native.Mathlib.Omega.{arith}
-use lib.ListN.{length, take}
-use lib.Seq.{take-all, length-take-le}
-use Rattle.page.proofs.Whole.{no-room, printed}
+use lib.ListN.{length}
+use lib.Seq.{length-take-le}
+use Rattle.model.specs.Page.{listPage, inputNumber, page, mostPage}
+use Rattle.text.proofs.Steps.{spoken}
+use Rattle.input.specs.Read.{read-asked}
+use Rattle.page_lines.specs.Put.{refused-line, due-is, too-short, put-text}
 use borrow.Author.Needs.{needs}
 use Rattle.page.proofs.print_page.Statement.{statement}
 use Rattle.page.proofs.print_page.Tie as tie
 
 returns : tie.Need-returns
-returns c =
-    let s = c .before .before .before in
-    no-room (s .args .input .now) (s .args .out .now) (c .if1 .taken)
+returns c = too-short mostPage _ _ (c .if1 .taken)
 
-put-read-requires : tie.Need-put-read-requires
-put-read-requires c κs = search needs
+read-requires : tie.Need-read-requires
+read-requires c κs = search needs
+
+put-refused-requires : tie.Need-put-refused-requires
+put-refused-requires c κs = search needs
 
 same-length : tie.Need-same-length
 same-length c = search needs
 
 returns-2 : tie.Need-returns-2
+unfolding page
 returns-2 c =
     let y = c .before .before in
     let t = y .before .before in
-    let s = t .before .before .before .before in
-    printed (s .args .input .now) (s .args .out .now) (s .args .input .now) (sym (take-all 16696 (s .args .input .now) (omega (arith, t .if2 .taken))))
-    (omega arith) (y .put-read .ensures)
+    let r = t .before .before in
+    put-text mostPage _ _ (omega arith) (spoken (refused-line _ _ (r .read .ensures .number) (t .if2 .taken)) (y .put-refused .ensures))
 
-read-long : (c : tie.After-put-read-arg2) → length (take 16696 (c .before .before .before .before .before .args .input .now)) ≡ 16696
-read-long c = length-take-le 16696 (c .before .before .before .before .before .args .input .now) (omega (arith, c .before .if2 .left))
+array-share-prefix-words : tie.Need-array-share-prefix-words
+array-share-prefix-words c = c .before .before .before .read .ensures .inside
 
-slice-aggregate-put-read : tie.Need-slice-aggregate-put-read
-slice-aggregate-put-read c = sym (read-long c)
+slice-aggregate-put-list : tie.Need-slice-aggregate-put-list
+slice-aggregate-put-list c = sym (length-take-le _ _ (c .before .before .before .before .read .ensures .inside))
 
-put-read-requires-2 : tie.Need-put-read-requires-2
-put-read-requires-2 c κs = (omega (arith, read-long (c .before)), omega arith)
+put-list-requires : tie.Need-put-list-requires
+put-list-requires c κs =
+    let e = c .before .before .before in
+    (read-asked (e .before .before .read .ensures) (e .if2 .left), omega arith)
 
 same-length-2 : tie.Need-same-length-2
 same-length-2 c = search needs
 
 returns-3 : tie.Need-returns-3
+unfolding page
 returns-3 c =
     let y = c .before .before in
-    let s = y .before .before .before .before .before .before .before in
-    printed (s .args .input .now) (s .args .out .now) _ refl (omega arith) (y .put-read2 .ensures)
+    let e = y .before .before .before .before in
+    let h = e .before .before .read .ensures in
+    let z = e .if2 .left in
+    put-text mostPage _ _ (omega arith)
+    (spoken (ap₂ listPage (h .book z) (h .count z) ∙ due-is _ (sym (h .number) ∙ z)) (y .put-list .ensures))
 
 pub print-page-spec : {M : Type 1} → statement M
 print-page-spec =
     tie.close
     (tie.spec
     returns
-    put-read-requires
+    read-requires
+    put-refused-requires
     same-length
     returns-2
-    slice-aggregate-put-read
-    put-read-requires-2
+    array-share-prefix-words
+    slice-aggregate-put-list
+    put-list-requires
     same-length-2
     returns-3)
