@@ -20,7 +20,7 @@ module _ (input : List ℕ) (q : Input) where
     pub book : q .no ≡ 0 → take (q .n) (q .words) ≡ inputBook input
 
 -- what is not refused passes the questions 1 to 14
-passes : (input : List ℕ) → inputNumber input ≡ 0 → askedNumber (inputBook input) (inputCount input) ≡ 0
+pub passes : (input : List ℕ) → inputNumber input ≡ 0 → askedNumber (inputBook input) (inputCount input) ≡ 0
 unfolding inputNumber
 passes input e = go (wholeWords (take mostInput input)) e
   where

@@ -4,3 +4,4 @@ pub mod Passed
 pub mod Carried
 pub mod Demand2
 pub mod Demand3
+pub mod Enough
