@@ -3,15 +3,15 @@
 use mathlib.Core.Path.{_≡_, refl, ap₂, _∙_}
 use mathlib.Core.Bool.{Bool, true, false, cond}
 use mathlib.Core.List.{List}
-use Prim.Native.Nat.{ℕ, zero, suc, _-_, _^_, _<_}
+use Prim.Native.Nat.{ℕ, zero, suc, _-_, _/_, _^_, _<_}
 use native.Mathlib.Omega.{arith}
 use borrow.Author.Tests.{ltb-true, ltb-false}
 use lib.Dec.{ltb}
 use lib.IntN.{pos, negsuc}
 use lib.Signed.{mag}
-use lib.ListN.{take, drop}
+use lib.ListN.{length, take, drop}
 use Rattle.model.specs.Bytes.{fromBytes, signed, wordsOf}
-use Rattle.model.specs.Page.{listPage, inputCount, inputBook, inputNumber, page, filed, recordPage}
+use Rattle.model.specs.Page.{listPage, mostInput, inputCount, inputBook, inputNumber, page, filed, recordPage}
 use Rattle.laws.specs.Members.{Every}
 use Rattle.asked.specs.Asked.{asked-says}
 use Rattle.record.specs.Demand2.{written-accepted}
@@ -31,7 +31,7 @@ words-small (suc n) bs = (small (fromBytes (take 4 bs)), words-small n (drop 4 b
 
 book-small : (input : List ℕ) → Every (λ z. mag z < 2 ^ 31) (inputBook input)
 unfolding inputBook
-book-small input = words-small _ _
+book-small input = words-small (length (take mostInput input) / 4 - 1) (drop 4 (take mostInput input))
 
 -- "the same page as printing K and its book"
 pub filed-page : (input : List ℕ) → inputNumber input ≡ 0 → recordPage (filed input) ≡ page input
