@@ -43,11 +43,11 @@ module _ (r : List ℕ) (h : length r ≤ mostInput) where
       ∙ rw (take-all mostInput r h)
 
 -- a refusal says nothing of K and the book
-pub refused : {input : List ℕ} {q : Input} → q .no ≡ 1 → 1 ≡ inputNumber input → q .n ≤ length (q .words) → Read input q
-refused {input} {q} e i l = record { number = e ∙ i; inside = l; count = λ z. absurd (other z); book = λ z. absurd (other z) }
+pub refused : {input : List ℕ} {q : Input} → (q .no ≡ 1) × (q .n ≡ 0) → 1 ≡ inputNumber input → Read input q
+refused {input} {q} e i = record { number = e .0 ∙ i; inside = omega (arith, e .1); count = λ z. absurd (other z); book = λ z. absurd (other z) }
   where
     other : q .no ≡ 0 → ⊥
-    other z = omega (arith, e, z)
+    other z = omega (arith, e .0, z)
 
 pub front : (input : List ℕ) {q : Input} → Read (take mostInput input) q → Read input q
 unfolding inputNumber inputCount inputBook

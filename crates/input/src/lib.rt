@@ -29,28 +29,30 @@ fn no_words() -> [i32; 4173]
     [0; 4173]
 }
 
+// What is no count and whole words after it: refused by 1.
+fn no_input() -> Input
+    ensures { λ q. ⌜ (q .no ≡ 1) × (q .n ≡ 0) ⌝ }
+{
+    Input {
+        no: 1,
+        k: 0,
+        n: 0,
+        words: no_words(),
+    }
+}
+
 // Of bytes of which every one counts.
 fn read_counted(r: &[u8]) -> Input
     requires { ⌜ length (now r) ≤ mostInput ⌝ }
     ensures { λ q. ⌜ Read (now (r .entry)) q ⌝ }
 {
-    let mut words = no_words();
     if r.len() < 4 {
-        return Input {
-            no: 1,
-            k: 0,
-            n: 0,
-            words: words,
-        };
+        return no_input();
     }
     if r.len() % 4 != 0 {
-        return Input {
-            no: 1,
-            k: 0,
-            n: 0,
-            words: words,
-        };
+        return no_input();
     }
+    let mut words = no_words();
     let n = r.len() / 4 - 1;
     let k = bytes_io::read4(r, 0) as usize;
     bytes_io::read_words(r, 4, n, &mut words);

@@ -1,6 +1,6 @@
 -- Whole words, of which the first is the count and the others the book.
 -- Assumes nothing.
-use mathlib.Core.Path.{_≡_, refl, sym, ap₂, _∙_}
+use mathlib.Core.Path.{_≡_, sym, ap₂, _∙_}
 use Prim.Native.Nat.{_-_, _/_, _≤_}
 use native.Mathlib.Omega.{arith}
 use lib.ListN.{length, take}
@@ -11,18 +11,26 @@ use borrow.Author.Needs.{needs}
 use Rattle.input.proofs.read_counted.Statement.{statement}
 use Rattle.input.proofs.read_counted.Tie as tie
 
-no-words-requires : tie.Need-no-words-requires
-no-words-requires c κs = search needs
+no-input-requires : tie.Need-no-input-requires
+no-input-requires c κs = search needs
 
 returns : tie.Need-returns
 returns c =
-    let s = c .before .before .before in
-    refused refl (too-short (s .args .r .now) (s .pre) (c .if1 .taken)) (omega arith)
+    let t = c .before in
+    let s = t .before .before in
+    refused (c .no-input .ensures) (too-short (s .args .r .now) (s .pre) (t .if1 .taken))
+
+no-input-requires-2 : tie.Need-no-input-requires-2
+no-input-requires-2 c κs = search needs
 
 returns-2 : tie.Need-returns-2
 returns-2 c =
-    let s = c .before .before .before .before in
-    refused refl (left-over (s .args .r .now) (s .pre) (omega arith) (c .if2 .taken)) (omega arith)
+    let t = c .before in
+    let s = t .before .before .before in
+    refused (c .no-input2 .ensures) (left-over (s .args .r .now) (s .pre) (omega arith) (t .if2 .taken))
+
+no-words-requires : tie.Need-no-words-requires
+no-words-requires c κs = search needs
 
 sub-n : tie.Need-sub-n
 sub-n c = search needs
@@ -43,8 +51,8 @@ room : (c : tie.After-read-words) →
     let s = c .before .before .before .before .before .before .before in
     length (s .args .r .now) / 4 - 1 ≤ length (c .read-words .last .1 .1 .1 .0)
 room c =
-    let n = c .before .before .before .before .before in
-    omega (arith, c .read-words .ensures .1, n .no-words .ensures, n .before .before .pre)
+    let n = c .before .before .before in
+    omega (arith, c .read-words .ensures .1, n .no-words .ensures, n .before .before .before .before .pre)
 
 slice-aggregate-asked-number : tie.Need-slice-aggregate-asked-number
 slice-aggregate-asked-number c = sym (length-take-le _ _ (room (c .before .before)))
@@ -56,13 +64,13 @@ returns-3 : tie.Need-returns-3
 returns-3 c =
     let w = c .before .before .before in
     let k = w .before .before in
-    let n = k .before .before .before in
-    let s = n .before .before in
+    let n = k .before in
+    let s = n .before .before .before .before in
     let r = s .args .r .now in
     let book = book-is r (s .pre) (n .no-words .result) (w .read-words .ensures .0) in
     let count = k .read4 .ensures .0 ∙ count-is r (s .pre) in
     record {
-      number = c .asked-number .ensures ∙ ap₂ askedNumber book count ∙ asked r (s .pre) (omega arith) (k .before .if2 .left);
+      number = c .asked-number .ensures ∙ ap₂ askedNumber book count ∙ asked r (s .pre) (omega arith) (n .before .if2 .left);
       inside = room w;
       count = λ _. count;
       book = λ _. book;
@@ -72,9 +80,11 @@ pub read-counted-spec : {M : Type 1} → statement M
 read-counted-spec =
     tie.close
     (tie.spec
-    no-words-requires
+    no-input-requires
     returns
+    no-input-requires-2
     returns-2
+    no-words-requires
     sub-n
     read4-requires
     slice-aggregate-read-words
