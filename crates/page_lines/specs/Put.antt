@@ -3,7 +3,7 @@
 use mathlib.Core.Path.{_≡_, refl, sym, ap, _∙_}
 use mathlib.Core.Bool.{Bool, true, false, cond}
 use mathlib.Core.List.{List}
-use Prim.Native.Nat.{ℕ, zero, suc, _+_, _≤_, _<_}
+use Prim.Native.Nat.{ℕ, zero, suc, _≤_, _<_}
 use native.Mathlib.Nat.{zero-add}
 use native.Mathlib.Omega.{arith}
 use borrow.Author.Tests.{le-leb, lt-leb}
@@ -13,7 +13,6 @@ use Rattle.model.specs.Calls.{over}
 use Rattle.model.specs.Page.{refusedLine, orRefused, putLength, putSlice}
 use Rattle.bytes_io.proofs.Parts.{written-front}
 use Rattle.text.specs.Text.{Appended}
-use Rattle.page_lines.specs.Lines.{titleText, title-long}
 
 pub refused-line : (m : ℕ) {n : ℕ} (due : List ℕ) → m ≡ n → (m ≡ 0 → ⊥) → refusedLine m ≡ orRefused n due
 refused-line zero due e h = absurd (h refl)
@@ -21,10 +20,6 @@ refused-line (suc m) due e h = rw (← e)
 
 pub due-is : {n : ℕ} (due : List ℕ) → n ≡ 0 → due ≡ orRefused n due
 due-is due e = rw e
-
--- where a title ends, whatever its numbers are
-pub title-end : {o o′ : List ℕ} {n k d r : ℕ} → Appended o 0 (titleText n k d) o′ r → (r ≤ 80) × (0 + length (titleText n k d) ≤ 80)
-title-end {o} {o′} {n} {k} {d} a = (omega (arith, a .end, title-long n k d), omega (arith, title-long n k d))
 
 module _ (most : ℕ) (t out : List ℕ) where
   pub too-short : length out < most → (0 ≡ putLength most t (length out)) × (out ≡ putSlice most t out)

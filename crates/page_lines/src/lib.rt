@@ -19,7 +19,7 @@ pub fn put_refused(out: &mut [u8], no: u32) -> usize
 // k, K and D^H.
 pub fn put_title(out: &mut [u8], n: u64, k: u64, scale: u64) -> usize
     requires { ⌜ 80 ≤ length (now out) ⌝ }
-    ensures { λ r. ⌜ Appended (now (out .entry)) 0 (titleText n k scale) (now (out .exit)) r ⌝ }
+    ensures { λ r. ⌜ Appended (now (out .entry)) 0 (titleText n k scale) (now (out .exit)) r × (r ≤ 80) ⌝ }
 {
     let a = text::put_number(out, 0, n);
     let b = text::put_text(out, a, b" of ");

@@ -16,7 +16,6 @@ use Rattle.index.proofs.Lines.{headed}
 use Rattle.text.specs.Text.{joined}
 use Rattle.text.proofs.Steps.{spoken}
 use Rattle.page_lines.specs.Lines.{titleText, lines-are}
-use Rattle.page_lines.specs.Put.{title-end}
 use borrow.Author.Needs.{needs}
 use Rattle.page.proofs.put_list.Statement.{statement}
 use Rattle.page.proofs.put_list.Tie as tie
@@ -48,7 +47,7 @@ put-lines-requires c κs =
     let h = l .list .ensures in (
       h .held,
       omega (arith, h .states, accepted (s .args .b .now) (s .pre .0 .ok) .sizes .s-high),
-      omega (arith, title-end (t .put-title .ensures) .0, h .held .few, t .put-title .kept .0, s .pre .1),
+      omega (arith, t .put-title .ensures .1, h .held .few, t .put-title .kept .0, s .pre .1),
     )
 
 same-length : tie.Need-same-length
@@ -69,7 +68,7 @@ returns c =
     (ap₂ _++_
     (ap (titleText n (s .args .k)) (t .before .power .ensures) ∙ title-is (s .args .b .now) (s .args .k) _ _ _ ok (h .count) (z .d-is) (z .h-is))
     (lines-are (s .args .b .now) ok (s .args .k) _ h))
-    (joined (omega (arith, title-end (t .put-title .ensures) .1, s .pre .1)) (t .put-title .ensures) (y .put-lines .ensures))
+    (joined (omega (arith, t .put-title .ensures .0 .end, t .put-title .ensures .1, s .pre .1)) (t .put-title .ensures .0) (y .put-lines .ensures))
 
 pub put-list-spec : {M : Type 1} → statement M
 put-list-spec =

@@ -2,6 +2,7 @@
 -- Assumes nothing.
 use native.Mathlib.Omega.{arith}
 use Rattle.page_lines.proofs.Title.{after-n, after-of, after-k, after-word, after-scale, title}
+use Rattle.page_lines.specs.Lines.{title-long}
 use borrow.Author.Needs.{needs}
 use Rattle.page_lines.proofs.put_title.Statement.{statement}
 use Rattle.page_lines.proofs.put_title.Tie as tie
@@ -79,9 +80,12 @@ returns c =
     let b = d .before .before .before .before in
     let a = b .before .before .before .before .before in
     let s = a .before .before .before in
+    let t =
     title (s .args .out .now) (s .args .n) (s .args .k) (s .args .scale) (s .pre) (a .put-number .ensures) (a .put-number .kept .0) (b .put-text .ensures) (b .put-text .kept .0)
     (d .put-number2 .ensures) (d .put-number2 .kept .0) (e .put-text2 .ensures) (e .put-text2 .kept .0) (f .put-number3 .ensures) (f .put-number3 .kept .0)
     (y .put-byte .ensures)
+    in
+    (t, omega (arith, t .end, title-long (s .args .n) (s .args .k) (s .args .scale)))
 
 pub put-title-spec : {M : Type 1} → statement M
 put-title-spec =
