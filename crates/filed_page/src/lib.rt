@@ -28,5 +28,6 @@ pub fn print_record(r: &[u8], out: &mut [u8]) -> usize
     let mut words = record::no_book();
     record::read_book(r, &mut words);
     let w = record::carried_length(r);
-    page::put_list(&words[..w], record::carried_k(r), out)
+    let k = record::carried_k(r);
+    page::put_list(&words[..w], k, out)
 }
