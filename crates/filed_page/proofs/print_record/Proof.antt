@@ -65,14 +65,14 @@ room c =
       r .before .before .no-book .ensures,
     )
 
+carried-k-requires : tie.Need-carried-k-requires
+carried-k-requires c κs = good (c .before .before .before .before .before) .head .long
+
 array-share-prefix-words : tie.Need-array-share-prefix-words
-array-share-prefix-words c = room c
+array-share-prefix-words c = room (c .before)
 
 slice-aggregate-put-list : tie.Need-slice-aggregate-put-list
-slice-aggregate-put-list c = sym (length-take-le _ _ (room (c .before)))
-
-carried-k-requires : tie.Need-carried-k-requires
-carried-k-requires c κs = good (c .before .before .before .before .before .before) .head .long
+slice-aggregate-put-list c = sym (length-take-le _ _ (room (c .before .before)))
 
 -- the first words of the array are the carried book
 book-is : (c : tie.After-carried-length) →
@@ -87,8 +87,8 @@ asked-of b e a = rw (b, e) a
 
 put-list-requires : tie.Need-put-list-requires
 put-list-requires c κs =
-    let k = c .before in
-    let w = k .before .before in
+    let k = c .before .before in
+    let w = k .before in
     (asked-of (book-is w) (k .carried-k .ensures .0) (good (w .before .before .before .before .before) .asked), omega arith)
 
 same-length-2 : tie.Need-same-length-2
@@ -98,8 +98,8 @@ returns-3 : tie.Need-returns-3
 unfolding recordPage
 returns-3 c =
     let y = c .before .before in
-    let k = y .before .before in
-    let w = k .before .before in
+    let k = y .before .before .before in
+    let w = k .before in
     let e = w .before .before .before .before .before in
     put-text mostPage _ _ (omega (arith, e .before .before .before .if1 .left))
     (spoken (ap₂ listPage (book-is w) (k .carried-k .ensures .0) ∙ due-is _ (passed e)) (y .put-list .ensures))
@@ -117,9 +117,9 @@ print-record-spec =
     slice-aggregate-read-book
     read-book-requires
     carried-length-requires
+    carried-k-requires
     array-share-prefix-words
     slice-aggregate-put-list
-    carried-k-requires
     put-list-requires
     same-length-2
     returns-3)
