@@ -5,6 +5,7 @@ cd "$(dirname "$0")/.."
 out=target/bindings
 archive=target/staticlib/libkbest_c.a
 export PYTHONDONTWRITEBYTECODE=1
+unset KBEST_LIBRARY
 
 die() {
     echo "bindings: $*" >&2
@@ -54,18 +55,22 @@ number=$((first * 10000 + second * 100 + third))
 head -1 "$out/c_tables.out" | grep -qx "version $version $number, library $number" || die "VERSION has $version, but: $(head -1 "$out/c_tables.out")"
 echo "version $version, limits and questions are the same in all languages"
 
+fails() { # NAME FILE COMMAND..: ends with status 1, and says why
+    name=$1 file=$2 status=0
+    shift 2
+    "$@" "$file" >/dev/null 2>"$out/$name.err" || status=$?
+    [ "$status" = 1 ] || die "$name: the example ends with status $status for $file"
+}
 example() { # NAME COMMAND..: what it prints, the record that it files, a file that it refuses and one that it cannot write
     name=$1
     shift
     "$@" "$out/$name.record" >"$out/$name.out" || die "$name: the example failed"
     same bindings/expected.txt "$out/$name.out" "$name: not what bindings/expected.txt has"
     cmp "$out/c.record" "$out/$name.record" || die "$name: another record than in C"
-    status=0
-    "$@" /dev/null >"$out/$name.out" 2>"$out/$name.err" || status=$?
-    [ "$status" = 1 ] && same "$out/refused" "$out/$name.err" "$name: another refusal of an empty file" || die "$name: an empty file gives status $status"
-    status=0
-    "$@" /dev/full >"$out/$name.out" 2>"$out/$name.err" || status=$?
-    [ "$status" = 1 ] && grep -q '^/dev/full: No space left on device' "$out/$name.err" || die "$name: a full device gives status $status: $(cat "$out/$name.err")"
+    fails "$name" /dev/null "$@"
+    same "$out/refused" "$out/$name.err" "$name: another refusal of an empty file"
+    fails "$name" /dev/full "$@"
+    grep -q '^/dev/full: No space left on device' "$out/$name.err" || die "$name: not the reason that the file cannot be written"
     echo "$name: as expected"
 }
 grep '^refused 19:' "$out/c_tables.out" >"$out/refused"
