@@ -1,5 +1,7 @@
-/* Checks a book, lists its three best plans, writes and accepts the record and shows its first plan. */
+/* example FILE: lists the three best plans of a book, files the record in FILE, reads the file again and prints what it lists. */
+#include <errno.h>
 #include <stdio.h>
+#include <string.h>
 
 #include "kbest.h"
 
@@ -13,8 +15,20 @@ static const int32_t BOOK[] = {
     10, 1, 1, 12, 2, 4, 9 /* right column */
 };
 #define WORDS (sizeof BOOK / sizeof BOOK[0])
+#define POSTS 3
 
-static void print_plan(const uint8_t *plan, size_t posts) {
+static int refused(uint32_t number) {
+    fprintf(stderr, "refused %u: %s\n", number, kbest_question(number));
+    return 1;
+}
+
+static int failed(const char *path) {
+    fprintf(stderr, "%s: %s\n", path, strerror(errno));
+    return 1;
+}
+
+static void print_plan(size_t rank, int64_t cost, const uint8_t *plan, size_t posts) {
+    printf("%zu %lld", rank, (long long)cost);
     for (size_t p = 0; p < posts; p++) {
         if (plan[p] == KBEST_NOT_REACHED)
             printf(" -");
@@ -24,44 +38,86 @@ static void print_plan(const uint8_t *plan, size_t posts) {
     printf("\n");
 }
 
-static int list(size_t posts) {
-    int64_t costs[ASKED], cost;
-    uint8_t plans[ASKED * KBEST_POSTS_MOST];
+static int list(void) {
+    int64_t costs[ASKED], least, last;
+    uint8_t plans[ASKED * POSTS];
     size_t listed;
     uint32_t no = kbest_rank(BOOK, WORDS, ASKED, costs, ASKED, plans, sizeof plans, &listed);
     if (no != KBEST_ACCEPTED)
-        return 1;
+        return refused(no);
     printf("%zu of %d, scale %llu\n", listed, ASKED, (unsigned long long)kbest_power(BOOK[0], BOOK[1]));
-    for (size_t j = 0; j < listed; j++) {
-        printf("%zu %lld", j + 1, (long long)costs[j]);
-        print_plan(plans + j * posts, posts);
-    }
-    if (kbest_least(BOOK, WORDS, &cost) != KBEST_ACCEPTED)
-        return 1;
-    printf("least %lld\n", (long long)cost);
-    if (kbest_value(BOOK, WORDS, plans + (listed - 1) * posts, posts, &cost) != KBEST_ACCEPTED)
-        return 1;
-    printf("last %lld\n", (long long)cost);
+    for (size_t j = 0; j < listed; j++)
+        print_plan(j + 1, costs[j], plans + j * POSTS, POSTS);
+    no = kbest_least(BOOK, WORDS, &least);
+    if (no != KBEST_ACCEPTED)
+        return refused(no);
+    no = kbest_value(BOOK, WORDS, plans + (listed - 1) * POSTS, POSTS, &last);
+    if (no != KBEST_ACCEPTED)
+        return refused(no);
+    printf("least %lld, last %lld\n", (long long)least, (long long)last);
     return 0;
 }
 
-int main(void) {
+static int file_record(const char *path) {
     uint8_t record[KBEST_RECORD_MOST];
-    size_t length, posts, listed, offset, shown;
-    printf("check %u\n", kbest_check(BOOK, WORDS));
-    printf("check of two words %u\n", kbest_check(BOOK, 2));
-    if (kbest_write(BOOK, WORDS, ASKED, record, sizeof record, &length) != KBEST_ACCEPTED)
-        return 1;
-    if (kbest_accept(record, length, &posts, &listed) != KBEST_ACCEPTED)
-        return 1;
-    if (list(posts) != 0)
-        return 1;
-    printf("record of %zu bytes\n", length);
-    printf("accepted: %zu posts, %zu plans\n", posts, listed);
-    kbest_show(record, length, 0, &offset, &shown);
-    printf("plan 0:");
-    print_plan(record + offset, shown);
-    kbest_show(record, length, listed, &offset, &shown);
-    printf("plan %zu: %zu bytes\n", listed, shown);
+    size_t length;
+    uint32_t no = kbest_write(BOOK, WORDS, ASKED, record, sizeof record, &length);
+    if (no != KBEST_ACCEPTED)
+        return refused(no);
+    FILE *file = fopen(path, "wb");
+    if (file == NULL)
+        return failed(path);
+    size_t written = fwrite(record, 1, length, file);
+    if (fclose(file) != 0 || written != length)
+        return failed(path);
+    printf("filed %zu bytes\n", length);
     return 0;
+}
+
+/* One byte more than the longest record is read, so that a longer file is refused and not cut. */
+static int read_file(const char *path, uint8_t record[KBEST_RECORD_MOST + 1], size_t *length) {
+    FILE *file = fopen(path, "rb");
+    if (file == NULL)
+        return failed(path);
+    *length = fread(record, 1, KBEST_RECORD_MOST + 1, file);
+    int wrong = ferror(file);
+    if (fclose(file) != 0 || wrong)
+        return failed(path);
+    return 0;
+}
+
+/* A record has W in its first four bytes and cost j at 12 + 4W + 8j, low byte first, as numbers lie in memory here. */
+static int64_t cost_of(const uint8_t *record, size_t j) {
+    uint32_t words;
+    int64_t cost;
+    memcpy(&words, record, sizeof words);
+    memcpy(&cost, record + 12 + 4 * words + 8 * j, sizeof cost);
+    return cost;
+}
+
+static int print_record(const char *path) {
+    uint8_t record[KBEST_RECORD_MOST + 1];
+    size_t length = 0, posts, listed, offset, shown;
+    if (read_file(path, record, &length) != 0)
+        return 1;
+    uint32_t no = kbest_accept(record, length, &posts, &listed);
+    if (no != KBEST_ACCEPTED)
+        return refused(no);
+    printf("accepted: %zu posts, %zu plans\n", posts, listed);
+    for (size_t j = 0; j < listed; j++) {
+        kbest_show(record, length, j, &offset, &shown);
+        print_plan(j + 1, cost_of(record, j), record + offset, shown);
+    }
+    return 0;
+}
+
+int main(int count, char **words) {
+    if (count != 2) {
+        fprintf(stderr, "usage: example FILE\n");
+        return 2;
+    }
+    printf("check %u, of two words %u\n", kbest_check(BOOK, WORDS), kbest_check(BOOK, 2));
+    if (list() != 0 || file_record(words[1]) != 0)
+        return 1;
+    return print_record(words[1]);
 }

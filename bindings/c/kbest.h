@@ -8,9 +8,10 @@
  * A call gives 0, or the number of the first question that is answered no. A refusal sets every figure to 0 and leaves every lent array as it was.
  * Success writes the stated front of a lent array and leaves the rest as it was.
  *
- * The caller sees to it that each pointer is not null, is aligned for its type and points to as many elements as are said (for a length of 0 to
- * any place), and that no array or figure that is written overlaps another argument. No call keeps a pointer, allocates memory, reads or writes
- * anything but its arguments, or waits; calls from several threads do not disturb each other. A call takes less than 128 kB of stack. */
+ * For an array of length 0 any pointer will do, a null pointer too. The caller sees to it that every other pointer is aligned for its type and
+ * points to as many elements as are said, that no pointer to a figure is null, and that no array or figure that is written overlaps another
+ * argument. No call keeps a pointer, allocates memory, reads or writes anything but its arguments, or waits; calls from several threads do not
+ * disturb each other. A call takes less than 128 kB of stack. */
 #ifndef KBEST_H
 #define KBEST_H
 
@@ -21,6 +22,13 @@
 extern "C" {
 #endif
 
+/* The version of this header, as text and as a number: the first x 10,000 + the second x 100 + the third. */
+#define KBEST_VERSION_TEXT "1.0.0"
+#define KBEST_VERSION 10000
+
+/* The version of the library that is linked, as a number. */
+uint32_t kbest_version(void);
+
 /* The longest book in words, the most posts of a book, the most plans of a list and the longest record in bytes. */
 #define KBEST_BOOK_MOST 4172
 #define KBEST_POSTS_MOST 64
@@ -30,31 +38,59 @@ extern "C" {
 /* The byte of a post that a plan does not reach. */
 #define KBEST_NOT_REACHED 255
 
-/* The questions, in order. Each is put to the whole input before the next. */
+/* What a call gives: 0, or the number of a question, which kbest_question has as text. */
 enum {
     KBEST_ACCEPTED = 0,
-    KBEST_TOO_FEW_WORDS = 1,     /* are there three words? */
-    KBEST_SCALE = 2,             /* is D from 1 to 100? */
-    KBEST_STAGES = 3,            /* is H from 1 to 8? */
-    KBEST_LINES = 4,             /* is L from 1 to 2,048? */
-    KBEST_POST_COUNTS = 5,       /* are there H + 1 post counts? */
-    KBEST_POSTS = 6,             /* is there one post at stage 0, are there 1 to 16 at every other, and at most 64 in all? */
-    KBEST_BOOK_LENGTH = 7,       /* is the length exactly 4 + H + S + 2L words? */
-    KBEST_CHOICES = 8,           /* has each post 1 to 8 choices, and 1 at stage H? */
-    KBEST_LINES_USED = 9,        /* is every r as allowed, do all lines fit, and are exactly L used? */
-    KBEST_COST = 10,             /* is every cost from -100,000 to 100,000? */
-    KBEST_NEXT_POST = 11,        /* do the next posts of each choice rise strictly and lie within the next stage? */
-    KBEST_WEIGHT = 12,           /* is every weight from 1 to D, and does each choice's sum to D? */
-    KBEST_BOUND = 13,            /* is D^H x (H + 1) x (largest cost without its sign) at most 4 x 10^18? */
-    KBEST_COUNT = 14,            /* is K from 1 to 64? */
-    KBEST_COSTS_ROOM = 15,       /* has the lent array of costs K places? */
-    KBEST_PLANS_ROOM = 16,       /* has the lent array of plans K x S bytes? */
-    KBEST_PLAN = 17,             /* is it a plan of this book? */
-    KBEST_RECORD_ROOM = 18,      /* does the lent array hold the record? */
-    KBEST_RECORD_HEAD = 19,      /* are there 12 bytes, is W at most 4,172, and do 4 x W bytes follow? */
-    KBEST_RECORD_LENGTH = 20,    /* is k from 1 to K, and the record's length exact? */
-    KBEST_RECORD_LIST = 21       /* are costs, plans and k those that ranking gives? */
+    KBEST_TOO_FEW_WORDS = 1,
+    KBEST_SCALE = 2,
+    KBEST_STAGES = 3,
+    KBEST_LINES = 4,
+    KBEST_POST_COUNTS = 5,
+    KBEST_POSTS = 6,
+    KBEST_BOOK_LENGTH = 7,
+    KBEST_CHOICES = 8,
+    KBEST_LINES_USED = 9,
+    KBEST_COST = 10,
+    KBEST_NEXT_POST = 11,
+    KBEST_WEIGHT = 12,
+    KBEST_BOUND = 13,
+    KBEST_COUNT = 14,
+    KBEST_COSTS_ROOM = 15,
+    KBEST_PLANS_ROOM = 16,
+    KBEST_PLAN = 17,
+    KBEST_RECORD_ROOM = 18,
+    KBEST_RECORD_HEAD = 19,
+    KBEST_RECORD_LENGTH = 20,
+    KBEST_RECORD_LIST = 21
 };
+
+/* The questions, in order; each is put to the whole input before the next. Any other number gives an empty text. */
+static inline const char *kbest_question(uint32_t number) {
+    switch (number) {
+    case KBEST_TOO_FEW_WORDS: return "are there three words?";
+    case KBEST_SCALE: return "is D from 1 to 100?";
+    case KBEST_STAGES: return "is H from 1 to 8?";
+    case KBEST_LINES: return "is L from 1 to 2,048?";
+    case KBEST_POST_COUNTS: return "are there H + 1 post counts?";
+    case KBEST_POSTS: return "is there one post at stage 0, are there 1 to 16 at every other, and at most 64 in all?";
+    case KBEST_BOOK_LENGTH: return "is the length exactly 4 + H + S + 2L words?";
+    case KBEST_CHOICES: return "has each post 1 to 8 choices, and 1 at stage H?";
+    case KBEST_LINES_USED: return "is every r as allowed, do all lines fit, and are exactly L used?";
+    case KBEST_COST: return "is every cost from -100,000 to 100,000?";
+    case KBEST_NEXT_POST: return "do the next posts of each choice rise strictly and lie within the next stage?";
+    case KBEST_WEIGHT: return "is every weight from 1 to D, and does each choice's sum to D?";
+    case KBEST_BOUND: return "is D^H x (H + 1) x (largest cost without its sign) at most 4 x 10^18?";
+    case KBEST_COUNT: return "is K from 1 to 64?";
+    case KBEST_COSTS_ROOM: return "has the lent array of costs K places?";
+    case KBEST_PLANS_ROOM: return "has the lent array of plans K x S bytes?";
+    case KBEST_PLAN: return "is it a plan of this book?";
+    case KBEST_RECORD_ROOM: return "does the lent array hold the record?";
+    case KBEST_RECORD_HEAD: return "are there 12 bytes, is W at most 4,172, and do 4 x W bytes follow?";
+    case KBEST_RECORD_LENGTH: return "is k from 1 to K, and the record's length exact?";
+    case KBEST_RECORD_LIST: return "are costs, plans and k those that ranking gives?";
+    default: return "";
+    }
+}
 
 /* Checks a book: questions 1 to 13. */
 uint32_t kbest_check(const int32_t *book, size_t words);

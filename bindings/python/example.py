@@ -1,4 +1,7 @@
-"""Checks a book, lists its three best plans, writes and accepts the record and shows its first plan."""
+"""example.py FILE: lists the three best plans of a book, files the record in FILE, reads the file again and prints what it lists."""
+
+import pathlib
+import sys
 
 import kbest
 
@@ -12,10 +15,6 @@ BOOK = [
 ASKED = 3
 
 
-def plan_text(plan):
-    return ''.join(' -' if c == kbest.NOT_REACHED else ' %d' % c for c in plan)
-
-
 def check_number(book):
     try:
         kbest.check(book)
@@ -24,22 +23,56 @@ def check_number(book):
     return 0
 
 
-def main():
-    print('check %d' % check_number(BOOK))
-    print('check of two words %d' % check_number(BOOK[:2]))
+def print_plan(rank, cost, plan):
+    print('%d %d%s' % (rank, cost, ''.join(' -' if c == kbest.NOT_REACHED else ' %d' % c for c in plan)))
+
+
+def print_list():
     best = kbest.rank(BOOK, ASKED)
     print('%d of %d, scale %d' % (len(best), ASKED, kbest.power(BOOK[0], BOOK[1])))
     for j, (cost, plan) in enumerate(best):
-        print('%d %d%s' % (j + 1, cost, plan_text(plan)))
-    print('least %d' % kbest.least(BOOK))
-    print('last %d' % kbest.value(BOOK, best[-1][1]))
+        print_plan(j + 1, cost, plan)
+    print('least %d, last %d' % (kbest.least(BOOK), kbest.value(BOOK, best[-1][1])))
+
+
+def file_record(path):
     record = kbest.write(BOOK, ASKED)
-    print('record of %d bytes' % len(record))
+    path.write_bytes(record)
+    print('filed %d bytes' % len(record))
+
+
+def cost_of(record, j):
+    """A record has W in its first four bytes and cost j at 12 + 4W + 8j, low byte first."""
+    at = 12 + 4 * int.from_bytes(record[:4], 'little') + 8 * j
+    return int.from_bytes(record[at:at + 8], 'little', signed=True)
+
+
+def print_record(path):
+    record = path.read_bytes()
     posts, listed = kbest.accept(record)
     print('accepted: %d posts, %d plans' % (posts, listed))
-    print('plan 0:%s' % plan_text(kbest.show(record, 0)))
-    print('plan %d: %d bytes' % (listed, len(kbest.show(record, listed))))
+    for j in range(listed):
+        print_plan(j + 1, cost_of(record, j), kbest.show(record, j))
+
+
+def main(arguments):
+    if len(arguments) != 1:
+        print('usage: example.py FILE', file=sys.stderr)
+        return 2
+    path = pathlib.Path(arguments[0])
+    print('check %d, of two words %d' % (check_number(BOOK), check_number(BOOK[:2])))
+    try:
+        print_list()
+        file_record(path)
+        print_record(path)
+    except kbest.Refused as refused:
+        print(refused, file=sys.stderr)
+        return 1
+    except OSError as error:
+        print('%s: %s' % (path, error.strerror), file=sys.stderr)
+        return 1
+    return 0
 
 
 if __name__ == '__main__':
-    main()
+    sys.exit(main(sys.argv[1:]))

@@ -1,12 +1,18 @@
 """The K best plans of a tour book, over the shared library that is linked from libkbest_c.a.
 
-A book is a sequence of 32-bit words, a plan and a record are bytes. Costs are exact and stand over D^H. A refusal raises Refused, whose number is
-that of the first question that is answered no. KBEST_LIBRARY names the shared library; else it is looked for where the build puts it.
+A book is a sequence of 32-bit words, a plan and a record are bytes. Costs are exact and stand over D^H. A refusal raises Refused, which has the
+number and the text of the first question that is answered no. The first call loads the library: KBEST_LIBRARY names it; else it is looked for
+where the build puts it.
 """
 
 import ctypes
+import functools
 import os
 import pathlib
+
+# of this module, as text and as the number that version() gives of the library
+VERSION_TEXT = '1.0.0'
+VERSION = 10000
 
 BOOK_MOST = 4172
 POSTS_MOST = 64
@@ -14,22 +20,52 @@ PLANS_MOST = 64
 RECORD_MOST = 21308
 NOT_REACHED = 255
 
+# each is put to the whole input before the next
+QUESTIONS = {
+    1: 'are there three words?',
+    2: 'is D from 1 to 100?',
+    3: 'is H from 1 to 8?',
+    4: 'is L from 1 to 2,048?',
+    5: 'are there H + 1 post counts?',
+    6: 'is there one post at stage 0, are there 1 to 16 at every other, and at most 64 in all?',
+    7: 'is the length exactly 4 + H + S + 2L words?',
+    8: 'has each post 1 to 8 choices, and 1 at stage H?',
+    9: 'is every r as allowed, do all lines fit, and are exactly L used?',
+    10: 'is every cost from -100,000 to 100,000?',
+    11: 'do the next posts of each choice rise strictly and lie within the next stage?',
+    12: "is every weight from 1 to D, and does each choice's sum to D?",
+    13: 'is D^H x (H + 1) x (largest cost without its sign) at most 4 x 10^18?',
+    14: 'is K from 1 to 64?',
+    15: 'has the lent array of costs K places?',
+    16: 'has the lent array of plans K x S bytes?',
+    17: 'is it a plan of this book?',
+    18: 'does the lent array hold the record?',
+    19: 'are there 12 bytes, is W at most 4,172, and do 4 x W bytes follow?',
+    20: "is k from 1 to K, and the record's length exact?",
+    21: 'are costs, plans and k those that ranking gives?',
+}
+
 
 class Refused(Exception):
-    """The first question that is answered no."""
+    """The first question that is answered no: its number and its text."""
 
     def __init__(self, number):
-        super().__init__('refused %d' % number)
-        self.number = number
+        super().__init__(number)
+        self.number, self.question = number, QUESTIONS.get(number, '')
+
+    def __str__(self):
+        return 'refused %d: %s' % (self.number, self.question)
 
 
-def _load():
+@functools.cache
+def _library():
     built = pathlib.Path(__file__).resolve().parents[2] / 'target' / 'bindings' / 'libkbest.so'
     lib = ctypes.CDLL(os.environ.get('KBEST_LIBRARY', str(built)))
     size, number = ctypes.c_size_t, ctypes.c_uint32
     words, data, costs = (ctypes.POINTER(t) for t in (ctypes.c_int32, ctypes.c_uint8, ctypes.c_int64))
     figure = ctypes.POINTER(size)
     for name, result, arguments in (
+        ('version', number, ()),
         ('check', number, (words, size)),
         ('power', ctypes.c_uint64, (size, size)),
         ('value', number, (words, size, data, size, costs)),
@@ -44,16 +80,13 @@ def _load():
     return lib
 
 
-_LIB = _load()
-
-
 def _array(kind, values):
-    """An array of at least one element, so that its pointer is never null, and the length that counts."""
+    """An array and its length. A value that does not fit is refused here, since it would be cut on the way."""
     values = list(values)
     low, high = (-2 ** 31, 2 ** 31) if kind is ctypes.c_int32 else (0, 256)
     if any(not low <= v < high for v in values):
         raise ValueError('a word or a byte is out of range')
-    return (kind * max(1, len(values)))(*values), len(values)
+    return (kind * len(values))(*values), len(values)
 
 
 def _words(book):
@@ -77,26 +110,31 @@ def _answer(number, figure=None):
     return figure
 
 
+def version():
+    """The version of the library that is loaded, as a number."""
+    return _library().kbest_version()
+
+
 def check(book):
     """Questions 1 to 13."""
-    return _answer(_LIB.kbest_check(*_words(book)))
+    return _answer(_library().kbest_check(*_words(book)))
 
 
 def power(d, e):
     """d^e for d from 1 to 100 and e from 0 to 8; 0 for any other."""
-    return _LIB.kbest_power(_size(d), _size(e))
+    return _library().kbest_power(_size(d), _size(e))
 
 
 def value(book, plan):
     """The cost of one plan: questions 1 to 13, then 17."""
     cost = ctypes.c_int64()
-    return _answer(_LIB.kbest_value(*_words(book), *_bytes(plan), ctypes.byref(cost)), cost.value)
+    return _answer(_library().kbest_value(*_words(book), *_bytes(plan), ctypes.byref(cost)), cost.value)
 
 
 def least(book):
     """The least cost of all plans: questions 1 to 13."""
     cost = ctypes.c_int64()
-    return _answer(_LIB.kbest_least(*_words(book), ctypes.byref(cost)), cost.value)
+    return _answer(_library().kbest_least(*_words(book), ctypes.byref(cost)), cost.value)
 
 
 def rank(book, k):
@@ -104,44 +142,27 @@ def rank(book, k):
     words, length = _words(book)
     costs, plans = (ctypes.c_int64 * PLANS_MOST)(), (ctypes.c_uint8 * (PLANS_MOST * POSTS_MOST))()
     listed = ctypes.c_size_t()
-    _answer(_LIB.kbest_rank(words, length, _size(k), costs, len(costs), plans, len(plans), ctypes.byref(listed)))
+    _answer(_library().kbest_rank(words, length, _size(k), costs, len(costs), plans, len(plans), ctypes.byref(listed)))
     posts = sum(words[3:4 + words[1]])
     return [(costs[j], bytes(plans[j * posts:(j + 1) * posts])) for j in range(listed.value)]
-
-
-def rank_into(book, k, costs_room, plans_room):
-    """Ranking with lent arrays of the given lengths, all places 7 before: (number, k, costs, plans) as the call leaves them."""
-    costs, plans = (ctypes.c_int64 * max(1, costs_room))(), (ctypes.c_uint8 * max(1, plans_room))()
-    costs[:], plans[:] = [7] * len(costs), [7] * len(plans)
-    listed = ctypes.c_size_t()
-    no = _LIB.kbest_rank(*_words(book), _size(k), costs, costs_room, plans, plans_room, ctypes.byref(listed))
-    return no, listed.value, costs[:costs_room], bytes(plans[:plans_room])
-
-
-def write_into(book, k, room):
-    """Writing with a lent array of the given length, all bytes 7 before: (number, length, bytes) as the call leaves them."""
-    record, length = (ctypes.c_uint8 * max(1, room))(), ctypes.c_size_t()
-    record[:] = [7] * len(record)
-    no = _LIB.kbest_write(*_words(book), _size(k), record, room, ctypes.byref(length))
-    return no, length.value, bytes(record[:room])
 
 
 def write(book, k):
     """The record of a book and k: questions 1 to 14."""
     record, length = (ctypes.c_uint8 * RECORD_MOST)(), ctypes.c_size_t()
-    no = _LIB.kbest_write(*_words(book), _size(k), record, len(record), ctypes.byref(length))
+    no = _library().kbest_write(*_words(book), _size(k), record, len(record), ctypes.byref(length))
     return _answer(no, bytes(record[:length.value]))
 
 
 def accept(record):
     """(S, how many plans are listed): question 19, then 1 to 14 of what the record carries, 20 and 21."""
     posts, listed = ctypes.c_size_t(), ctypes.c_size_t()
-    no = _LIB.kbest_accept(*_bytes(record), ctypes.byref(posts), ctypes.byref(listed))
+    no = _library().kbest_accept(*_bytes(record), ctypes.byref(posts), ctypes.byref(listed))
     return _answer(no, (posts.value, listed.value))
 
 
 def show(record, j):
     """Plan j as a part of the record; empty where the record is not accepted or lists no plan j."""
     offset, length = ctypes.c_size_t(), ctypes.c_size_t()
-    _LIB.kbest_show(*_bytes(record), _size(j), ctypes.byref(offset), ctypes.byref(length))
+    _library().kbest_show(*_bytes(record), _size(j), ctypes.byref(offset), ctypes.byref(length))
     return memoryview(record)[offset.value:offset.value + length.value]

@@ -1,118 +1,151 @@
-"""Random small books, many of them spoiled, through the library and through the rules of document 01 by enumeration. Every call must agree."""
+"""Random cases of tests/kinds.py, every call of them put to the library and to the rules of document 01 by enumeration: all must agree.
 
+The cases are accepted books of many shapes, books with a fault for each question, words that are none, plans and records with a fault, and counts
+and rooms at their limits. Each call must have given every number that it can give, so that no question goes untried.
+"""
+
+import ctypes
 import pathlib
-import random
 import sys
 
 sys.dont_write_bytecode = True
 sys.path.insert(0, str(pathlib.Path(__file__).resolve().parents[2] / 'tests'))
 
 import kbest
+import kinds
+import machine
 import reference
+from test_cases import NUMBERS
 
-BOOKS = 300
+SEED = 'bindings'
+MANY, FEW = 18, 2    # cases of each kind
+SLOW = ('many', 'large', 'full')
 
 
-def number_and(call, *arguments):
+def answer(call, *arguments):
     """(number, figure); the figure is None where the call is refused."""
     try:
         return 0, call(*arguments)
     except kbest.Refused as refused:
+        same('the text of a refusal', str(refused), 'refused %d: %s' % (refused.number, kbest.QUESTIONS[refused.number]))
         return refused.number, None
 
 
-def random_book(rng):
-    """A small book that passes all questions; few costs, so that many plans tie."""
-    stages, scale = rng.randint(1, 3), rng.randint(1, 4)
-    sizes = [1] + [rng.randint(1, 3) for _ in range(stages)]
-    counts, left, right = [], [], []
-    for n, size in enumerate(sizes):
-        for _ in range(size):
-            counts.append(1 if n == stages else rng.randint(1, 3))
-            for _ in range(counts[-1]):
-                nexts = [] if n == stages else sorted(rng.sample(range(sizes[n + 1]), rng.randint(1, min(scale, sizes[n + 1]))))
-                cuts = sorted(rng.sample(range(1, scale), len(nexts) - 1)) if nexts else []
-                left += [len(nexts)] + nexts
-                right += [rng.choice((-3, 0, 1, 2, 5))] + [b - a for a, b in zip([0] + cuts, cuts + [scale])][:len(nexts)]
-    return [scale, stages, len(left)] + sizes + counts + left + right
+def wanted(number, *figures):
+    """What answer() gives for a call of reference.py."""
+    return number, None if number else figures[0] if len(figures) == 1 else figures
 
 
-def spoiled(rng, words):
-    words = list(words)
-    for _ in range(rng.randint(1, 2)):
-        at = rng.randrange(len(words))
-        words[at] = rng.choice((words[at] - 1, words[at] + 1, 0, -1, 255, 2 ** 31 - 1, -2 ** 31))
-    return words[:rng.randrange(len(words) + 1)] if rng.random() < 0.2 else words
-
-
-def same(what, got, want, words):
+def same(what, got, want):
     if got != want:
-        sys.exit('%s: the library gives %r, the reference %r, for the book %r' % (what, got, want, words))
+        raise AssertionError('%s: the library gives %r, the reference %r' % (what, got, want))
 
 
-def compare_list(rng, words, k, posts):
-    costs_room = k + rng.randint(-1, 2)
-    plans_room = max(0, k * posts + rng.randint(-1, 5))
-    costs_room = max(0, costs_room)
-    costs, plans = [7] * costs_room, [7] * plans_room
-    no, listed = reference.rank(words, k, costs, plans)
-    same('rank', kbest.rank_into(words, k, costs_room, plans_room), (no, listed, costs, bytes(plans)), words)
-    if not no:
-        best = reference.ranking(words, k)
-        same('rank', kbest.rank(words, k), [(cost, bytes(plan)) for cost, plan in best], words)
-    return no, bytes(plans[:posts])
+def lent(kind, values):
+    return (kind * len(values))(*values)
 
 
-def compare_records(rng, words, k):
-    no = reference.check(words) or reference.count_no(k)
-    room = 0 if no else len(reference.record(words, k)) + rng.randint(-1, 3)
-    lent = bytearray([7] * room)
-    no, length = reference.write(words, k, lent)
-    same('write', kbest.write_into(words, k, room), (no, length, bytes(lent)), words)
-    if no:
-        return
-    record = bytearray(lent[:length])
-    same('write', kbest.write(words, k), bytes(record), words)
-    if rng.random() < 0.6:
-        record[rng.choice((0, 4, 8, rng.randrange(len(record))))] ^= rng.choice((1, 2, 128))
-    if rng.random() < 0.1:
-        record = record[:rng.randrange(len(record))]
-    compare_accept(rng, record, words)
+def rank_into(words, k, costs, plans):
+    """The call itself, with lent arrays: (number, k, costs, plans) as it leaves them."""
+    book, costs, plans = lent(ctypes.c_int32, words), lent(ctypes.c_int64, costs), lent(ctypes.c_uint8, plans)
+    listed = ctypes.c_size_t(99)
+    no = kbest._library().kbest_rank(book, len(book), k, costs, len(costs), plans, len(plans), ctypes.byref(listed))
+    return no, listed.value, list(costs), bytes(plans)
 
 
-def compare_accept(rng, record, words):
-    no, posts, k = reference.accept(record)
-    same('accept', number_and(kbest.accept, record), (no, None if no else (posts, k)), words)
-    for j in (0, rng.randrange(6), 2 ** 64 - 1):
-        same('show', bytes(kbest.show(record, j)), reference.show(record, j), words)
+def write_into(words, k, room):
+    """The call itself, with a lent array: (number, length, bytes) as it leaves them."""
+    book, record, length = lent(ctypes.c_int32, words), lent(ctypes.c_uint8, room), ctypes.c_size_t(99)
+    no = kbest._library().kbest_write(book, len(book), k, record, len(record), ctypes.byref(length))
+    return no, length.value, bytes(record)
 
 
-def compare(rng, words):
-    no = reference.check(words)
-    same('check', number_and(kbest.check, words)[0], no, words)
-    least_no, cost = reference.least(words)
-    same('least', number_and(kbest.least, words), (least_no, None if least_no else cost), words)
-    k = rng.choice((0, 1, 2, 3, 5, 64, 65))
-    posts = 0 if no else reference.Book(words).posts
-    rank_no, plan = compare_list(rng, words, k, posts)
-    plan = bytes(rng.choice((0, 0, 1, 255)) for _ in range(posts)) if rank_no or rng.random() < 0.5 else plan
-    value_no, cost = reference.value(words, plan)
-    same('value', number_and(kbest.value, words, plan), (value_no, None if value_no else cost), words)
-    compare_records(rng, words, k)
-    return no
+class Compared(machine.Machine):
+    """Puts each call to the library too, with what the machine holds, and compares. Commands that are no calls of the library only change the places."""
+
+    def __init__(self, seen):
+        super().__init__()
+        self.seen = seen
+
+    def check(self, c, part):
+        no = reference.check(self.words)
+        self.seen['check'].add(no)
+        same('check', answer(kbest.check, self.words), (no, None))
+
+    def least(self, c, part):
+        no, cost = reference.least(self.words)
+        self.seen['least'].add(no)
+        same('least', answer(kbest.least, self.words), wanted(no, cost))
+
+    def value(self, c, part):
+        no, cost = reference.value(self.words, part)
+        self.seen['value'].add(no)
+        same('value', answer(kbest.value, self.words, part), wanted(no, cost))
+
+    def power(self, c, part):
+        same('power', kbest.power(c.k, c.z), c.k ** c.z if 1 <= c.k <= 100 and c.z <= 8 else 0)
+
+    def rank(self, c, part):
+        costs, plans = [machine.FILL] * c.z, bytearray(part)
+        no, listed = reference.rank(self.words, c.k, costs, plans)
+        self.seen['rank'].add(no)
+        same('rank', rank_into(self.words, c.k, [machine.FILL] * c.z, part), (no, listed, costs, bytes(plans)))
+        no = reference.check(self.words) or reference.count_no(c.k)
+        best = [] if no else [(cost, bytes(plan)) for cost, plan in reference.ranking(self.words, c.k)]
+        same('rank', answer(kbest.rank, self.words, c.k), wanted(no, best))
+        self.bytes[c.x:c.y] = plans
+
+    def write(self, c, part):
+        record = bytearray(part)
+        no, length = reference.write(self.words, c.k, record)
+        self.seen['write'].add(no)
+        same('write', write_into(self.words, c.k, part), (no, length, bytes(record)))
+        no = reference.check(self.words) or reference.count_no(c.k)
+        same('write', answer(kbest.write, self.words, c.k), wanted(no, b'' if no else reference.record(self.words, c.k)))
+        self.bytes[c.x:c.y] = record
+
+    def accept(self, c, part):
+        no, posts, listed = reference.accept(part)
+        self.seen['accept'].add(no)
+        same('accept', answer(kbest.accept, part), wanted(no, posts, listed))
+
+    def show(self, c, part):
+        same('show', bytes(kbest.show(part, c.k)), reference.show(part, c.k))
+
+    def browse(self, c, part):
+        pass
+
+    def page(self, c, part):
+        pass
+
+
+def compare(case, seen):
+    compared = Compared(seen)
+    for c in machine.whole(case):
+        try:
+            compared.run(c)
+        except AssertionError as fault:
+            sys.exit('case %s, %s\n%s' % (case.title, fault, machine.describe(case)))
+
+
+def drawn():
+    """Cases of every kind but pages, which are no call of the library, and books that the reference cannot enumerate."""
+    for name in kinds.KINDS:
+        if name not in ('page', 'vast'):
+            for n in range(FEW if name in SLOW else MANY):
+                yield kinds.make(SEED, n, name)
 
 
 def main():
-    rng = random.Random(1)
-    passed = 0
-    for i in range(BOOKS):
-        words = random_book(rng)
-        passed += compare(rng, words) == 0
-        passed += compare(rng, spoiled(rng, words)) == 0
+    seen, cases = {name: set() for name in NUMBERS}, 0
+    for case in drawn():
+        compare(case, seen)
+        cases += 1
+    same('the numbers that the calls have given', seen, NUMBERS)
     for d in range(103):
         for e in range(11):
-            same('power', kbest.power(d, e), d ** e if 1 <= d <= 100 and e <= 8 else 0, [])
-    print('%d books, %d of them accepted: all calls agree with the reference' % (2 * BOOKS, passed))
+            same('power', kbest.power(d, e), d ** e if 1 <= d <= 100 and e <= 8 else 0)
+    print('%d random cases: all calls agree with the reference, and each has given every number that it can' % cases)
 
 
 if __name__ == '__main__':

@@ -1,4 +1,9 @@
-//! Checks a book, lists its three best plans, writes and accepts the record and shows its first plan.
+//! example FILE: lists the three best plans of a book, files the record in FILE, reads the file again and prints what it lists.
+
+use std::error::Error;
+use std::path::{Path, PathBuf};
+use std::process::ExitCode;
+use std::{env, fs, io};
 
 const BOOK: [i32; 22] = [
     2, 1, 7, // D, H, L
@@ -7,41 +12,89 @@ const BOOK: [i32; 22] = [
     2, 0, 1, 1, 0, 0, 0, // left column
     10, 1, 1, 12, 2, 4, 9, // right column
 ];
+const POSTS: usize = 3;
 const ASKED: usize = 3;
 
-fn plan_text(plan: &[u8]) -> String {
-    plan.iter()
-        .map(|&c| if c == kbest::NOT_REACHED { " -".to_string() } else { format!(" {c}") })
-        .collect()
+fn check_number(book: &[i32]) -> u32 {
+    kbest::check(book).map_or_else(|refused| refused.number(), |()| 0)
 }
 
-fn list(posts: usize) -> Result<(), kbest::Refused> {
+fn print_plan(rank: usize, cost: i64, plan: &[u8]) {
+    print!("{rank} {cost}");
+    for &choice in plan {
+        if choice == kbest::NOT_REACHED {
+            print!(" -");
+        } else {
+            print!(" {choice}");
+        }
+    }
+    println!();
+}
+
+fn print_list() -> Result<(), kbest::Refused> {
     let mut costs = [0; ASKED];
-    let mut plans = [0; ASKED * kbest::POSTS_MOST];
+    let mut plans = [0; ASKED * POSTS];
     let listed = kbest::rank(&BOOK, ASKED, &mut costs, &mut plans)?;
     println!("{listed} of {ASKED}, scale {}", kbest::power(2, 1));
-    let mut last = &plans[..0];
-    for (j, plan) in plans.chunks(posts).take(listed).enumerate() {
-        println!("{} {}{}", j + 1, costs[j], plan_text(plan));
-        last = plan;
+    let listed_plans = &plans[..listed * POSTS];
+    for (j, plan) in listed_plans.chunks(POSTS).enumerate() {
+        print_plan(j + 1, costs[j], plan);
     }
-    println!("least {}", kbest::least(&BOOK)?);
-    println!("last {}", kbest::value(&BOOK, last)?);
+    let last = &listed_plans[(listed - 1) * POSTS..];
+    println!("least {}, last {}", kbest::least(&BOOK)?, kbest::value(&BOOK, last)?);
     Ok(())
 }
 
-fn main() -> Result<(), kbest::Refused> {
-    let number = |answer: Result<(), kbest::Refused>| answer.map_or_else(|r| r.number(), |()| 0);
-    println!("check {}", number(kbest::check(&BOOK)));
-    println!("check of two words {}", number(kbest::check(&BOOK[..2])));
+fn named(path: &Path, error: io::Error) -> String {
+    format!("{}: {error}", path.display())
+}
+
+fn file_record(path: &Path) -> Result<(), Box<dyn Error>> {
     let mut room = [0; kbest::RECORD_MOST];
     let length = kbest::write(&BOOK, ASKED, &mut room)?;
-    let record = &room[..length];
-    let found = kbest::accept(record)?;
-    list(found.posts)?;
-    println!("record of {length} bytes");
-    println!("accepted: {} posts, {} plans", found.posts, found.listed);
-    println!("plan 0:{}", plan_text(kbest::show(record, 0)));
-    println!("plan {}: {} bytes", found.listed, kbest::show(record, found.listed).len());
+    fs::write(path, &room[..length]).map_err(|error| named(path, error))?;
+    println!("filed {length} bytes");
     Ok(())
+}
+
+/// A record has W in its first four bytes and cost j at 12 + 4W + 8j, low byte first.
+fn cost_of(record: &[u8], j: usize) -> i64 {
+    let mut words = [0; 4];
+    words.copy_from_slice(&record[..4]);
+    let at = 12 + 4 * u32::from_le_bytes(words) as usize + 8 * j;
+    let mut cost = [0; 8];
+    cost.copy_from_slice(&record[at..at + 8]);
+    i64::from_le_bytes(cost)
+}
+
+fn print_record(path: &Path) -> Result<(), Box<dyn Error>> {
+    let record = fs::read(path).map_err(|error| named(path, error))?;
+    let found = kbest::accept(&record)?;
+    println!("accepted: {} posts, {} plans", found.posts, found.listed);
+    for j in 0..found.listed {
+        print_plan(j + 1, cost_of(&record, j), kbest::show(&record, j));
+    }
+    Ok(())
+}
+
+fn run(path: &Path) -> Result<(), Box<dyn Error>> {
+    println!("check {}, of two words {}", check_number(&BOOK), check_number(&BOOK[..2]));
+    print_list()?;
+    file_record(path)?;
+    print_record(path)
+}
+
+fn main() -> ExitCode {
+    let arguments: Vec<PathBuf> = env::args_os().skip(1).map(PathBuf::from).collect();
+    let [path] = arguments.as_slice() else {
+        eprintln!("usage: example FILE");
+        return ExitCode::from(2);
+    };
+    match run(path) {
+        Ok(()) => ExitCode::SUCCESS,
+        Err(error) => {
+            eprintln!("{error}");
+            ExitCode::FAILURE
+        }
+    }
 }

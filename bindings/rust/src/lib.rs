@@ -1,10 +1,15 @@
 //! The K best plans of a tour book: a safe wrapper of the static library `libkbest_c.a`.
 //!
 //! A book is a slice of 32-bit words, a plan one byte for each post. Costs are exact and stand over D^H. Each call takes any slice of any length
-//! and any count; what cannot be answered is refused with the number of the first question that is answered no. Nothing is allocated here.
+//! and any count; what cannot be answered is refused with the first question that is answered no. Nothing is allocated here.
 
 use std::fmt;
 use std::num::NonZeroU32;
+
+/// The version of this wrapper as text.
+pub const VERSION_TEXT: &str = "1.0.0";
+/// The same as a number: the first × 10,000 + the second × 100 + the third.
+pub const VERSION: u32 = 10000;
 
 /// The longest book in words.
 pub const BOOK_MOST: usize = 4172;
@@ -17,9 +22,35 @@ pub const RECORD_MOST: usize = 21308;
 /// The byte of a post that a plan does not reach.
 pub const NOT_REACHED: u8 = 255;
 
+/// The questions 1 to 21, in order; each is put to the whole input before the next.
+pub const QUESTIONS: [&str; 21] = [
+    "are there three words?",
+    "is D from 1 to 100?",
+    "is H from 1 to 8?",
+    "is L from 1 to 2,048?",
+    "are there H + 1 post counts?",
+    "is there one post at stage 0, are there 1 to 16 at every other, and at most 64 in all?",
+    "is the length exactly 4 + H + S + 2L words?",
+    "has each post 1 to 8 choices, and 1 at stage H?",
+    "is every r as allowed, do all lines fit, and are exactly L used?",
+    "is every cost from -100,000 to 100,000?",
+    "do the next posts of each choice rise strictly and lie within the next stage?",
+    "is every weight from 1 to D, and does each choice's sum to D?",
+    "is D^H x (H + 1) x (largest cost without its sign) at most 4 x 10^18?",
+    "is K from 1 to 64?",
+    "has the lent array of costs K places?",
+    "has the lent array of plans K x S bytes?",
+    "is it a plan of this book?",
+    "does the lent array hold the record?",
+    "are there 12 bytes, is W at most 4,172, and do 4 x W bytes follow?",
+    "is k from 1 to K, and the record's length exact?",
+    "are costs, plans and k those that ranking gives?",
+];
+
 mod c {
     #[link(name = "kbest_c", kind = "static")]
     extern "C" {
+        pub fn kbest_version() -> u32;
         pub fn kbest_check(book: *const i32, words: usize) -> u32;
         pub fn kbest_power(d: usize, e: usize) -> u64;
         pub fn kbest_value(book: *const i32, words: usize, plan: *const u8, bytes: usize, cost: *mut i64) -> u32;
@@ -40,7 +71,7 @@ mod c {
     }
 }
 
-/// The number of the first question that is answered no.
+/// The first question that is answered no.
 #[derive(Clone, Copy, Debug, PartialEq, Eq)]
 pub struct Refused(NonZeroU32);
 
@@ -49,11 +80,16 @@ impl Refused {
     pub fn number(self) -> u32 {
         self.0.get()
     }
+
+    /// The question's text.
+    pub fn question(self) -> &'static str {
+        QUESTIONS.get(self.number() as usize - 1).copied().unwrap_or("")
+    }
 }
 
 impl fmt::Display for Refused {
     fn fmt(&self, f: &mut fmt::Formatter<'_>) -> fmt::Result {
-        write!(f, "refused {}", self.0)
+        write!(f, "refused {}: {}", self.number(), self.question())
     }
 }
 
@@ -76,6 +112,11 @@ fn answer<T>(number: u32, figure: T) -> Result<T, Refused> {
 }
 
 // In each call below the pointers and lengths are those of live slices and figures; what is written is borrowed for that alone, so nothing overlaps.
+
+/// The version of the library that is linked, as a number.
+pub fn version() -> u32 {
+    unsafe { c::kbest_version() }
+}
 
 /// Checks a book: questions 1 to 13.
 pub fn check(book: &[i32]) -> Result<(), Refused> {

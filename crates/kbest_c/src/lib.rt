@@ -5,6 +5,18 @@ ghost use Rattle.model.specs.Questions.{bookNumber};
 ghost use Rattle.model.specs.Record.{acceptNumber};
 ghost use Rattle.model.specs.Calls.{powerOf, valueNumber, valueCost, leastCost, roomOf, rankNumber, rankCount, rankCosts, rankPlans, writeNumber, writeLength, writeRecord, acceptStates, acceptCount, shown};
 ghost use Rattle.kbest_c.specs.Part.{shownOffset, shownLength};
+ghost use Rattle.kbest_c.specs.Version.{version};
+
+// The version in the file VERSION: its first number × 10,000 + its second × 100 + its third.
+const VERSION: u32 = 10000;
+
+// The version of the library that is linked.
+#[no_mangle]
+pub extern "C" fn kbest_version() -> u32
+    ensures { λ r. ⌜ r ≡ version ⌝ }
+{
+    VERSION
+}
 
 // The number of the first question of 1 to 13 that is answered no, or 0.
 #[no_mangle]

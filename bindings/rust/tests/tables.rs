@@ -1,0 +1,12 @@
+//! Prints the version, the limits and the questions as the wrapper has them, for build.sh to compare with those of the header.
+
+use kbest::*;
+
+fn main() {
+    println!("version {VERSION_TEXT} {VERSION}, library {}", version());
+    println!("most {BOOK_MOST} {POSTS_MOST} {PLANS_MOST} {RECORD_MOST}");
+    println!("not reached {NOT_REACHED}");
+    for (i, question) in QUESTIONS.iter().enumerate() {
+        println!("refused {}: {question}", i + 1);
+    }
+}
