@@ -27,12 +27,13 @@ import tours
 from kbest import QUESTIONS
 
 KBEST = os.path.join(ROOT, 'kbest')
+PYTHON = sys.executable, '-S'    # with the standard library alone
 A, A_3 = book.text_of_words(tours.book_a()).encode(), ref.record(tours.book_a(), 3)
 OLD = b'as it was\n'
 
 
 def run(*words, data=b'', script=KBEST, **more):
-    return subprocess.run([sys.executable, script, *words], input=data, capture_output=True, timeout=120, **more)
+    return subprocess.run([*PYTHON, script, *words], input=data, capture_output=True, timeout=120, **more)
 
 
 def text(words):
@@ -169,19 +170,22 @@ class RoundTrips(Folder):
         self.expect(done, *((0, b'accepted\n') if result == 'accepted' else (1, b'refused %d\n' % result, reason(result))))
 
     def test_tours(self):
-        """Every tour of document 01 in the verbs that ask what it asks: a list that is printed and filed, a book or a record that is checked."""
+        """Every book of the tours with its K, or 3 where the tour has none."""
+        lists = {(tuple(given[0]), given[1] if call in ('page', 'rank', 'write') else 3) for _, call, given, _ in tours.TABLE if call != 'accept'}
+        for words, k in sorted(lists):
+            with self.subTest(words=words, k=k):
+                number = ref.check(list(words)) or ref.count_no(k)
+                self.refused(list(words), k, number) if number else self.round_trip(list(words), k)
+
+    def test_tours_checked(self):
+        """The tours that check a book or a record, with the result that the document gives."""
         for tour, call, given, result in tours.TABLE:
-            with self.subTest(tour=tour, call=call):
-                if call == 'accept':
-                    self.checked('record', given[0], result)
-                elif call in ('page', 'rank', 'write'):
-                    number = ref.check(given[0]) or ref.count_no(given[1])
-                    self.refused(*given[:2], number) if number else self.round_trip(*given[:2])
-                else:
-                    self.checked('book', text(given[0]), ref.check(given[0]) or 'accepted')
+            if call in ('check', 'accept'):
+                with self.subTest(tour=tour):
+                    self.checked(*(('book', text(given[0])) if call == 'check' else ('record', given[0])), result)
 
     def test_random_books(self):
-        for words, k in accepted_books(12):
+        for words, k in accepted_books(8):
             self.round_trip(words, k)
 
 
@@ -198,12 +202,10 @@ class Refusals(Folder):
 
     def each_verb(self, source, number, *verbs):
         self.file('kept', OLD)
-        line = b'refused %d\n' % number
         for verb, *more in verbs:
-            self.expect(run(verb, source, *more), 1, b'' if verb == 'file' else line, reason(number))
-            if verb != 'check':
-                for name in ('none', 'kept'):
-                    self.expect(run(verb, source, *more, '-o', self.path(name)), 1, b'' if verb == 'file' else line, reason(number))
+            ways = [[]] if verb == 'check' else [[], ['-o', self.path('none')], ['-o', self.path('kept')]]
+            for way in ways:
+                self.expect(run(verb, source, *more, *way), 1, b'' if verb == 'file' else b'refused %d\n' % number, reason(number))
         self.assertEqual(self.content('kept'), OLD)
         self.assertEqual(sorted(os.listdir(self.folder)), ['kept', 'source'])
 
@@ -212,15 +214,16 @@ class Refusals(Folder):
         self.assertEqual(set(found), {*range(1, 14)})
         for number, words in found.items():
             with self.subTest(number=number):
-                self.each_verb(self.file('source', text(words)), number, ('print', '3'), ('check',))
+                self.each_verb(self.file('source', text(words)), number, ('check',))
+                self.expect(run('print', self.path('source'), '3'), 1, b'refused %d\n' % number, reason(number))
 
-    def test_file(self):
-        self.each_verb(self.file('source', text(tours.book_a(scale=3))), 12, ('file', '3'))
+    def test_files(self):
+        self.each_verb(self.file('source', text(tours.book_a(scale=3))), 12, ('print', '3'), ('file', '3'))
 
     def test_counts(self):
         source = self.file('source', A)
         for count in ('0', '65', '4294967295'):
-            self.each_verb(source, 14, ('print', count))
+            self.expect(run('print', source, count), 1, b'refused 14\n', reason(14))
         self.each_verb(source, 14, ('file', '0'))
 
     def test_records(self):
@@ -228,7 +231,8 @@ class Refusals(Folder):
         for number, record in ((19, A_3[:11]), (12, carried), (14, tours.record_of_a(65)), (20, tours.record_of_a(1)), (21, A_3[:-1] + b'\1')):
             with self.subTest(number=number):
                 self.assertEqual(ref.accept(record)[0], number)
-                self.each_verb(self.file('source', record), number, ('page',), ('check',))
+                self.each_verb(self.file('source', record), number, ('page',) if number == 21 else ('check',))
+                self.expect(run('page', self.path('source')), 1, b'refused %d\n' % number, reason(number))
 
 
 class Wrong(Folder):
@@ -238,27 +242,28 @@ class Wrong(Folder):
         self.expect_reason(run(*words, data=data), 2)
 
     def test_commands(self):
-        for words in ([], ['-'], ['print', '-'], ['print'], ['file', '-'], ['page'], ['check'], ['page', '-', '3'], ['print', '-', '3', '4'], ['unknown', '-', '3'],
-                      ['check', '--page', '-'], ['check', '--book', '--record', '-'], ['check', '-', '-o', 'x'], ['print', '-', '3', '-o'], ['-x', '-', '3']):
+        for words in ([], ['-'], ['print', '-'], ['print'], ['file', '-'], ['page'], ['check'], ['page', '-', '3'], ['print', '-', '3', '4'],
+                      ['unknown', '-', '3'], ['check', '--page', '-'], ['check', '--book', '--record', '-'], ['check', '-', '-o', 'x'],
+                      ['print', '-', '3', '-o'], ['-x', '-', '3']):
             with self.subTest(words=words):
                 self.wrong(*words)
 
     def test_counts(self):
-        for count in ('-1', 'three', '3.0', '', '+3', '4294967296', '9' * 5000):
-            for verb in ('print', 'file'):
-                with self.subTest(verb=verb, count=count[:20]):
-                    self.wrong(verb, '-', count, '-o', self.path('none'))
+        for verb, count in (('print', '-1'), ('file', '-1'), ('print', 'three'), ('print', '3.0'), ('print', ''), ('print', '+3'), ('print', '4294967296'),
+                            ('file', '4294967296'), ('print', '9' * 5000)):
+            with self.subTest(verb=verb, count=count[:20]):
+                self.wrong(verb, '-', count, '-o', self.path('none'))
         self.assertEqual(os.listdir(self.folder), [])
 
     def test_files(self):
         for path in (self.path('none'), self.folder, ''):
-            for words in (['print', path, '3'], ['file', path, '3'], ['page', path], ['check', path], [path, '3']):
+            for words in (['file', path, '3'], ['page', path], ['check', path], [path, '3']):
                 with self.subTest(words=words):
                     self.wrong(*words)
 
     def test_closed_input(self):
         for words in (['print', '-', '3'], ['page', '-'], ['check', '-']):
-            done = subprocess.run(['sh', '-c', 'exec "$@" <&-', 'sh', sys.executable, KBEST, *words], capture_output=True)
+            done = subprocess.run(['sh', '-c', 'exec "$@" <&-', 'sh', *PYTHON, KBEST, *words], capture_output=True)
             self.expect_reason(done, 2)
 
     def test_texts(self):
@@ -290,7 +295,7 @@ def on_terminal(streams, words, data=b'', **more):
     """Runs the command with some of its streams on a terminal: (what the terminal shows, exit status, what goes to the other of output and error)."""
     master, slave = pty.openpty()
     places = {name: slave if name in streams else subprocess.PIPE for name in ('stdout', 'stderr')}
-    with subprocess.Popen([sys.executable, more.pop('script', KBEST), *words], stdin=subprocess.PIPE, **places, **more) as child:
+    with subprocess.Popen([*PYTHON, more.pop('script', KBEST), *words], stdin=subprocess.PIPE, **places, **more) as child:
         os.close(slave)
         child.stdin.write(data)
         child.stdin.close()
@@ -339,16 +344,16 @@ class Unwritten(Folder):
     def test_too_large(self):
         """The limit of a file's size stands for a full disk: a part is written, then no more."""
         self.file('page', OLD)
+        limited = ['sh', '-c', 'trap "" XFSZ; ulimit -f 1; exec "$@"', 'sh', *PYTHON, '-B', KBEST]
         for name in ('page', 'other'):
-            done = subprocess.run(['sh', '-c', 'trap "" XFSZ; ulimit -f 1; exec "$@"', 'sh', sys.executable, '-B', KBEST, 'print', '-', '64', '-o', self.path(name)],
-                                  input=text(cases.chain(8, 8, 8, 8)), capture_output=True)
+            done = subprocess.run(limited + ['print', '-', '64', '-o', self.path(name)], input=text(cases.chain(8, 8, 8, 8)), capture_output=True)
             self.expect_reason(done, 3)
         self.assertEqual((os.listdir(self.folder), self.content('page')), (['page'], OLD))
 
     def test_devices(self):
         with open('/dev/full', 'wb') as full:
             for words in (['print', '-', '3'], ['print', '-', '0'], ['file', '-', '3'], ['check', '-'], ['-h']):
-                done = subprocess.run([sys.executable, KBEST, *words], input=A, stdout=full, stderr=subprocess.PIPE)
+                done = subprocess.run([*PYTHON, KBEST, *words], input=A, stdout=full, stderr=subprocess.PIPE)
                 self.assertEqual(done.returncode, 3, words)
                 self.assertIn(b'standard output', done.stderr)
         self.unwritten('-o', '/dev/full')
@@ -359,18 +364,18 @@ class Unwritten(Folder):
     def test_closed_pipe(self):
         reading, writing = os.pipe()
         os.close(reading)
-        done = subprocess.run([sys.executable, KBEST, '-', '3'], input=A, stdout=writing, stderr=subprocess.PIPE)
+        done = subprocess.run([*PYTHON, KBEST, '-', '3'], input=A, stdout=writing, stderr=subprocess.PIPE)
         os.close(writing)
         self.assertEqual((done.returncode, done.stderr.count(b'\n')), (3, 1))
         self.assertNotIn(b'Traceback', done.stderr)
 
     def test_closed_output(self):
-        done = subprocess.run(['sh', '-c', 'exec "$@" >&-', 'sh', sys.executable, KBEST, '-', '3'], input=A, stderr=subprocess.PIPE)
+        done = subprocess.run(['sh', '-c', 'exec "$@" >&-', 'sh', *PYTHON, KBEST, '-', '3'], input=A, stderr=subprocess.PIPE)
         self.assertEqual((done.returncode, done.stderr.count(b'\n')), (3, 1))
 
     def test_closed_error(self):
         """The status and the line are all there is."""
-        done = subprocess.run(['sh', '-c', 'exec "$@" 2>&-', 'sh', sys.executable, KBEST, '-', '0'], input=A, stdout=subprocess.PIPE)
+        done = subprocess.run(['sh', '-c', 'exec "$@" 2>&-', 'sh', *PYTHON, KBEST, '-', '0'], input=A, stdout=subprocess.PIPE)
         self.assertEqual((done.returncode, done.stdout), (1, b'refused 14\n'))
 
 
@@ -392,7 +397,7 @@ class Written(Folder):
         with open(self.path('all'), 'wb') as f:
             f.write(OLD)
             f.flush()
-            subprocess.run([sys.executable, KBEST, '-', '3', '-o', '/dev/stdout'], input=A, stdout=f, check=True)
+            subprocess.run([*PYTHON, KBEST, '-', '3', '-o', '/dev/stdout'], input=A, stdout=f, check=True)
         self.assertEqual(self.content('all'), OLD + tours.PAGE.encode())
 
 
@@ -529,7 +534,7 @@ class FirstRun(Folder):
         self.assertIn(b'rt is not found', done.stderr)
 
     def test_two_at_once(self):
-        words = [sys.executable, self.path('kbest'), 'print', self.file('book', A), '3']
+        words = [*PYTHON, self.path('kbest'), 'print', self.file('book', A), '3']
         both = [subprocess.Popen(words, env=self.how('slow')['env'], stdout=subprocess.PIPE, stderr=subprocess.PIPE) for _ in range(2)]
         self.assertEqual([child.communicate() for child in both], [(b'made\n', b'')] * 2)
         self.assertEqual(len(self.calls()), 1)
@@ -547,7 +552,7 @@ class FirstRun(Folder):
 
     def interrupted(self, number, waits, words, act=''):
         """Sends a signal once a file is there: (exit status, what was said)."""
-        with subprocess.Popen([sys.executable, self.path('kbest'), *words], env=self.how(act)['env'], stdout=subprocess.PIPE, stderr=subprocess.PIPE,
+        with subprocess.Popen([*PYTHON, self.path('kbest'), *words], env=self.how(act)['env'], stdout=subprocess.PIPE, stderr=subprocess.PIPE,
                               cwd=self.folder, preexec_fn=lambda: signal.signal(number, signal.SIG_DFL)) as child:
             for _ in range(1000):
                 if os.path.exists(waits):
