@@ -1,5 +1,5 @@
 #!/usr/bin/env bash
-# All tests besides the proofs: the examples in other languages, the unit tests, the three programs, and fresh random cases for some seconds, by default 20.
+# All tests besides the proofs: the examples in other languages, the unit tests, the three programs, and fresh random cases for some seconds, by default 15.
 set -eu
 cd "$(dirname "$0")/.."
 tests/needs.sh
@@ -9,5 +9,5 @@ rt check kbest kbest_file kbest_page cases >target/tests.log 2>&1 || { tail -20 
 bindings/build.sh
 python3 -m unittest discover -s tests -p 'test_*.py'
 python3 tests/programs.py
-python3 tests/fresh.py "${1:-20}"
+python3 tests/fresh.py "${1:-15}"
 echo "all tests besides the proofs passed"

@@ -2,6 +2,7 @@
 """Tests of ./kbest with the programs in target/bin, which must be built; the first run with a toolchain that is acted. Run: python3 tests/test_command.py"""
 
 import contextlib
+import fcntl
 import os
 import pty
 import random
@@ -11,6 +12,7 @@ import stat
 import subprocess
 import sys
 import tempfile
+import threading
 import time
 import unittest
 
@@ -410,7 +412,8 @@ RT = '''#!/bin/sh
 echo "$*" >>calls
 case $ACT in
 wait) echo $$ >pid; sleep 60 & wait ;;
-fail) echo "rt: laws proved (1 s)"; echo "why it failed" >&2; exit 1 ;;
+fail) echo "rt: laws proved (1 s)"; echo "rt: kbest proved, and its run FAILED (0 s)"; echo "why it failed" >&2; exit 1 ;;
+edit) sleep 0.1; touch crates/laws/src/lib.rt ;;
 empty) exit 0 ;;
 slow) sleep 0.7 ;;
 esac
@@ -510,6 +513,20 @@ class FirstRun(Folder):
         self.assertEqual(len(self.calls()), before + 1)
         self.assertTrue(os.path.exists(self.path('target/bin/kbest_page')))
 
+    def test_change_while_proving(self):
+        """It may have come too late, whatever the time of the programs."""
+        self.expect(run('-', '3', data=A, **self.how('edit')), 0, b'made\n')
+        self.made()
+        self.assertEqual(len(self.calls()), 2)
+        self.made()
+        self.assertEqual(len(self.calls()), 2)
+
+    def test_built_by_hand(self):
+        self.made()
+        os.remove(self.path('target/kbest.stamp'))
+        self.made()
+        self.assertEqual(len(self.calls()), 1)
+
     def test_wrong_book_first(self):
         """What is wrong with the command or the book is said before anything is built."""
         self.expect_reason(run('-', '3', data=b'no book', **self.how()), 2)
@@ -523,6 +540,7 @@ class FirstRun(Folder):
             shown, status, out = on_terminal(['stderr'], ['-', '3'], data=A, **self.how(act))
             self.assertEqual((status, out), (3, b''))
             self.assertIn(why, shown)
+            self.assertIn(b'%d of 5 crates\r\n' % (act == 'fail'), shown)
         self.assertFalse(os.path.exists(self.path('page')))
         self.made()
 
@@ -538,6 +556,17 @@ class FirstRun(Folder):
         both = [subprocess.Popen(words, env=self.how('slow')['env'], stdout=subprocess.PIPE, stderr=subprocess.PIPE) for _ in range(2)]
         self.assertEqual([child.communicate() for child in both], [(b'made\n', b'')] * 2)
         self.assertEqual(len(self.calls()), 1)
+
+    def test_waiting_is_said(self):
+        os.mkdir(self.path('target'))
+        with open(self.path('target/kbest.lock'), 'wb') as lock:
+            fcntl.flock(lock, fcntl.LOCK_EX)
+            timer = threading.Timer(0.7, lock.close)
+            timer.start()
+            shown, status, out = on_terminal(['stderr'], ['-', '3'], data=A, **self.how())
+            timer.join()
+        self.assertEqual((status, out), (0, b'made\n'))
+        self.assertTrue(shown.startswith(b'waiting for another run'))
 
     def test_programs_that_fail(self):
         self.made()
