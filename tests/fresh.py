@@ -1,10 +1,10 @@
 #!/usr/bin/env python3
-"""Fresh random cases, for as long as one likes, to the proved program and to reference.py.
+"""Fresh random cases, for as long as one likes, to the proved programs and to reference.py.
 
-    tests/fresh.py [SECONDS] [SEED] [PRINTING PROGRAM]     by default 60 seconds and a seed that is drawn
+    tests/fresh.py [SECONDS] [SEED]     by default 60 seconds and a seed that is drawn
 
-Builds the program `cases` first (rt check cases). Stops at the first difference and prints the seed, the case and what came; exit status 1.
-With a printing program, pages are compared too. `tests/cases.py show SEED N` prints a case again.
+Builds the program `cases` and the three of programs.py first (rt check). Stops at the first difference and prints the seed, the case or the input and what
+came; exit status 1. `tests/cases.py show SEED N` prints a case again.
 """
 
 import os
@@ -14,11 +14,11 @@ import time
 
 import kinds
 import machine
-import pages
+import programs
 
 ROOT = os.path.join(os.path.dirname(os.path.abspath(__file__)), '..')
 PROGRAM = os.path.join(ROOT, 'target', 'bin', 'cases')
-AT_ONCE = 40
+AT_ONCE, INPUTS = 40, 10    # cases, and after them inputs to each of the three programs
 
 
 def run(data):
@@ -43,24 +43,20 @@ def compare(seed, numbers):
 def main(args):
     seconds = float(args[0]) if args else 60
     seed = args[1] if len(args) > 1 else str(int.from_bytes(os.urandom(4), 'little'))
-    if subprocess.run(['rt', 'check', 'cases'], cwd=ROOT, stdout=subprocess.DEVNULL).returncode:
-        print('rt check cases fails')
+    if subprocess.run(['rt', 'check', 'cases', *programs.PROGRAMS], cwd=ROOT, stdout=subprocess.DEVNULL).returncode:
+        print('rt check fails')
         return 1
     print('seed %s' % seed, flush=True)
-    end, n, page = time.monotonic() + seconds, 0, 0
+    end, n, m = time.monotonic() + seconds, 0, 0
     while time.monotonic() < end:
         found = compare(seed, range(n, n + AT_ONCE))
         if found:
             print('case %d of seed %s differs\n%sgot\n%s' % (found[0], seed, machine.describe(kinds.fresh(seed, found[0])), found[1]))
             return 1
-        n += AT_ONCE
-        for _ in range(AT_ONCE if len(args) > 2 else 0):
-            found = pages.differs(args[2], seed, page)
-            if found:
-                pages.report(seed, page, found)
-                return 1
-            page += 1
-    print('%d cases and %d pages are equal' % (n, page))
+        if not programs.compare(seed, range(m, m + INPUTS)):
+            return 1
+        n, m = n + AT_ONCE, m + INPUTS
+    print('%d cases and %d inputs to each of %d programs are equal' % (n, m, len(programs.PROGRAMS)))
     return 0
 
 

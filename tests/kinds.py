@@ -1,4 +1,4 @@
-"""Random cases of many kinds, for fresh.py and pages.py; cases.py stores a few of them. Case N of a seed is drawn from these two only."""
+"""Random cases of many kinds, for fresh.py and programs.py; cases.py stores a few of them. Case N of a seed is drawn from these two only."""
 
 import random
 
@@ -153,19 +153,22 @@ def wild(rng):
     return refused(rng, words) if books.feasible(words) else powers(rng)
 
 
-def noise(rng):
-    """Random bytes as a record, some with a head that fits them."""
+def noise_bytes(rng):
     kind = rng.randrange(4)
     if kind == 0:
-        content = bytes(rng.randrange(256) for _ in range(rng.randrange(60)))
-    elif kind == 1:
+        return bytes(rng.randrange(256) for _ in range(rng.randrange(60)))
+    if kind == 1:
         w = rng.randrange(12)
-        content = machine.little(w, 4) + bytes(rng.randrange(4) for _ in range(8 + 4 * w + rng.choice([-1, 0, 1, 9])))
-    elif kind == 2:
-        content = machine.little(rng.choice([4172, 4173, 2 ** 32 - 1, 2 ** 30, 2 ** 30 + 1]), 4) + bytes(rng.choice([8, 20, 200]))
-    else:
-        words = books.wild(rng)
-        content = head(words, rng.randrange(70), rng.randrange(4)) + book_bytes(words) + bytes(rng.randrange(30))
+        return machine.little(w, 4) + bytes(rng.randrange(4) for _ in range(8 + 4 * w + rng.choice([-1, 0, 1, 9])))
+    if kind == 2:
+        return machine.little(rng.choice([4172, 4173, 2 ** 32 - 1, 2 ** 30, 2 ** 30 + 1]), 4) + bytes(rng.choice([8, 20, 200]))
+    words = books.wild(rng)
+    return head(words, rng.randrange(70), rng.randrange(4)) + book_bytes(words) + bytes(rng.randrange(30))
+
+
+def noise(rng):
+    """Random bytes as a record, some with a head that fits them."""
+    content = noise_bytes(rng)
     yield from (put(content), accept(len(content)))
     yield from show(rng.randrange(3), len(content))
 
@@ -176,24 +179,33 @@ def as_record(words, most, k, listed):
     return head(words, most, k) + book_bytes(words) + costs + b''.join(bytes(plan) for _, plan in listed)
 
 
-def forged_lists(words, most):
+def other_lists(words, most):
     """Records whose sizes fit and whose list is another: short by one plan, empty, with a plan twice, in another order, with a plan that belongs later,
     with a cost that is not the plan's; and the record itself."""
     listed = ref.in_order(tuple(words))
     best = listed[:most]
     for other in (best[:-1], [], best + best[-1:], best[:-1] + best[:1], best[1:2] + best[:1] + best[2:], best[:-1] + listed[-1:],
                   [(best[0][0] + 1, best[0][1])] + best[1:], [(best[0][0], best[1][1])] + best[1:], best):
-        content = as_record(words, most, len(other), other)
+        yield as_record(words, most, len(other), other)
+
+
+def forged_lists(words, most):
+    for content in other_lists(words, most):
         yield from (put(content), accept(len(content)))
         yield from show(0, len(content))
 
 
-def forged(rng):
+def some_plans(rng):
+    """A book of three plans or more, and K."""
     listed = []
     while len(listed) < 3:
         words = books.draw(rng, rng.choice([books.small, books.ties, books.few]))
         listed = [] if ref.check(words) else ref.in_order(tuple(words))
-    return forged_lists(words, min(64, rng.choice([2, 3, 5, len(listed), len(listed) + 1])))
+    return words, min(64, rng.choice([2, 3, 5, len(listed), len(listed) + 1]))
+
+
+def forged(rng):
+    return forged_lists(*some_plans(rng))
 
 
 def longest(rng):
@@ -246,6 +258,45 @@ def page_input(rng):
 def some_page(rng):
     content = page_input(rng)[:MOST_INPUT]
     yield from (put(content, BOOK - 4), page(len(content)))
+
+
+# ---- input of the program that prints the page of a record
+
+def bent_record(rng, words):
+    """A record with bytes changed, cut off or added."""
+    most = some_count(rng, len(ref.in_order(tuple(words))))
+    record = bytearray(ref.record(words, most))
+    if rng.random() < 0.3:
+        return record[:rng.choice([11, 12, rng.randrange(len(record)), len(record) - 1])]
+    if rng.random() < 0.2:
+        return record + bytes(rng.choice([1, 8, 25000]))
+    for at, x in changed_bytes(rng, bytes(record), words, int.from_bytes(record[8:12], 'little')):
+        if rng.random() < 0.4:
+            record[at] = x
+    return record
+
+
+def any_record(rng):
+    """A record; or one that is bent, that has another list, or that carries a book or a count that is refused; or noise."""
+    kind = rng.randrange(8)
+    if kind == 0:
+        return noise_bytes(rng)
+    if kind == 1:
+        return rng.choice(list(other_lists(*some_plans(rng))))
+    words = books.draw(rng, rng.choice(books.SHAPES))
+    if kind == 2 or ref.check(words):
+        words = faulty(rng, rng.sample(books.BREAKS, rng.randint(1, 3)))
+        return head(words, rng.choice([3, 64, bad_count(rng) % 2 ** 32]), rng.randrange(3)) + book_bytes(words) + bytes(rng.choice([0, 11]))
+    if kind in (3, 4):
+        return bent_record(rng, words)
+    return ref.record(words, some_count(rng, len(ref.in_order(tuple(words)))))
+
+
+def record_input(rng):
+    while True:
+        found = bytes(any_record(rng))
+        if carried_feasible(found):
+            return found
 
 
 # ---- which kinds there are

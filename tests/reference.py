@@ -255,17 +255,45 @@ def show(data, j):
     return data[at:at + posts]
 
 
-def page(data):
-    """Standard input to the printed page, both as bytes."""
+# ---- the programs: standard input to standard output, both as bytes
+
+def asked(data):
+    """What the programs that print and that file read, K and a book: (number, K, words). Only the first 16,696 bytes count."""
     data = data[:16696]
     if len(data) < 4 or len(data) % 4:
-        return b'refused 1\n'
+        return 1, 0, []
     k, words = int.from_bytes(data[:4], 'little'), words_of(data[4:])
-    no = check(words) or count_no(k)
-    if no:
-        return b'refused %d\n' % no
+    return check(words) or count_no(k), k, words
+
+
+def refusal(no):
+    return b'refused %d\n' % no
+
+
+def printed(words, k):
     book, best = Book(words), ranking(words, k)
     out = ['%d of %d, scale %d' % (len(best), k, book.scale ** book.stages)]
     for j, (cost, plan) in enumerate(best):
         out.append(' '.join(str(x) for x in (j + 1, cost)) + ''.join(' -' if c == 255 else ' %d' % c for c in plan))
     return ('\n'.join(out) + '\n').encode()
+
+
+def page(data):
+    """K and a book to the printed page."""
+    no, k, words = asked(data)
+    return refusal(no) if no else printed(words, k)
+
+
+def filed(data):
+    """K and a book to the record."""
+    no, k, words = asked(data)
+    return refusal(no) if no else record(words, k)
+
+
+def record_page(data):
+    """A record to the page of the K and the book that it carries."""
+    no = accept(data)[0]
+    if no:
+        return refusal(no)
+    w, most = (int.from_bytes(data[i:i + 4], 'little') for i in (0, 4))
+    return printed(words_of(data[12:12 + 4 * w]), most)

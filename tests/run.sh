@@ -1,11 +1,13 @@
 #!/usr/bin/env bash
-# The tests outside the gate: the text form, the references, the stored cases, the examples in other languages, and fresh random cases for some seconds.
+# All tests besides the proofs: the examples in other languages, the unit tests, the three programs, and fresh random cases for some seconds, by default 15.
 set -eu
 cd "$(dirname "$0")/.."
+tests/needs.sh
 export PYTHONDONTWRITEBYTECODE=1
-python3 -m unittest discover -s tests -p 'test_*.py'
+mkdir -p target
+rt check kbest kbest_file kbest_page cases >target/tests.log 2>&1 || { tail -20 target/tests.log; exit 1; }
 bindings/build.sh
-rt check kbest >target/kbest.log 2>&1 || { tail -20 target/kbest.log; exit 1; }
-python3 tests/pages.py target/bin/kbest
-python3 tests/fresh.py "${1:-30}"
-echo "all tests outside the gate passed"
+python3 -m unittest discover -s tests -p 'test_*.py'
+python3 tests/programs.py
+python3 tests/fresh.py "${1:-15}"
+echo "all tests besides the proofs passed"

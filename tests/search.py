@@ -4,6 +4,7 @@ reference.py is the rule; this is compared with it on every book that can be enu
 """
 
 import contextlib
+import functools
 import heapq
 
 import reference as ref
@@ -67,19 +68,17 @@ def plan_cost(book, plan):
     return numbers(book, tuple(plan))[0]
 
 
+@functools.lru_cache(maxsize=4)
+def longest_list(words):
+    """The first 64 plans, of which every list is the front. The last books are kept."""
+    return first(list(words), 64)
+
+
 @contextlib.contextmanager
 def instead_of_enumeration():
     """The calls of reference.py, over this search."""
-    kept, last = (ref.ranking, ref.is_plan, ref.plan_cost), {}
-
-    def ranking(words, k):
-        key = tuple(words)
-        if key not in last or len(last[key]) < k:
-            last.clear()
-            last[key] = first(words, k)
-        return last[key][:k]
-
-    ref.ranking, ref.is_plan, ref.plan_cost = ranking, is_plan, plan_cost
+    kept = ref.ranking, ref.is_plan, ref.plan_cost
+    ref.ranking, ref.is_plan, ref.plan_cost = (lambda words, k: longest_list(tuple(words))[:k]), is_plan, plan_cost
     try:
         yield
     finally:

@@ -85,6 +85,14 @@ class RoundTrips(unittest.TestCase):
         self.assertEqual(book.words_of_text(text)[0], -2 ** 31)
         self.assertEqual(book.words_of_text(text)[-1], 2 ** 31 - 1)
 
+    def test_many_digits(self):
+        """More than Python turns into a number by itself."""
+        self.assertEqual(book.words_of_text(b'words ' + b'0' * 5000 + b'12 -' + b'0' * 5000 + b'12 -0 00'), [12, -12, 0, 0])
+        for sign in (b'', b'-'):
+            with self.assertRaises(book.Refused) as caught:
+                book.words_of_text(b'words ' + sign + b'9' * 5000)
+            self.assertIn('does not fit 32 bits', str(caught.exception))
+
 
 class Records(unittest.TestCase):
     def test_book_a(self):

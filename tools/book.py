@@ -23,6 +23,7 @@ FORMS = {
     'words': 'words NUMBER ..',
 }
 PLACES = 12
+DIGITS = 10    # of the largest number of 32 bits
 
 
 class Refused(Exception):
@@ -35,11 +36,17 @@ def refuse(line, reason):
 
 # ---- text to words
 
+def whole(text):
+    """The number, or None if it has so many digits that it fits no word; Python itself takes some thousands at most."""
+    digits = '0' + text.lstrip('-0')
+    return None if len(digits) > 1 + DIGITS else -int(digits) if text[0] == '-' else int(digits)
+
+
 def number(line, text):
     if not re.fullmatch('-?[0-9]+', text):
         refuse(line, '"%s" is not a whole number' % text)
-    value = int(text)
-    if not LOW <= value <= HIGH:
+    value = whole(text)
+    if value is None or not LOW <= value <= HIGH:
         refuse(line, '%s does not fit 32 bits' % text)
     return value
 
@@ -261,9 +268,10 @@ def record_to_text(data):
 # ---- the command
 
 def unsigned(text):
-    if not re.fullmatch('[0-9]+', text) or int(text) >= 2 ** 32:
+    value = whole(text) if re.fullmatch('[0-9]+', text) else None
+    if value is None or value >= 2 ** 32:
         raise argparse.ArgumentTypeError('%s is not a number of 32 bits without a sign' % text)
-    return int(text)
+    return value
 
 
 def arguments():

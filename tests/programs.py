@@ -1,0 +1,175 @@
+#!/usr/bin/env python3
+"""The three programs in target/bin: kbest and kbest_file, which read K and a book, and kbest_page, which reads a record; compared with reference.py.
+
+    tests/programs.py [COUNT] [SEED]     the edges of what they read, then random inputs to each, by default 300 of seed 1
+    tests/programs.py store              writes the stored input and output of their crates; the same on every run
+
+Edges and some random inputs come through a slow pipe too, in pieces, since one read may give only a part. Stops at the first difference with the input as
+hexadecimal digits, what is expected and what came; exit status 1.
+"""
+
+import contextlib
+import os
+import random
+import subprocess
+import sys
+import time
+
+import cases
+import kinds
+import reference as ref
+import search
+import tours
+from machine import book_bytes, little
+
+ROOT = os.path.join(os.path.dirname(os.path.abspath(__file__)), '..')
+PROGRAMS = {'kbest': (ref.page, kinds.page_input), 'kbest_file': (ref.filed, kinds.page_input), 'kbest_page': (ref.record_page, kinds.record_input)}
+SLOWLY = 10    # one random input in so many
+PIECES, PAUSE = 12, 0.002
+
+
+def program(name):
+    return os.path.join(ROOT, 'target', 'bin', name)
+
+
+def ended(child, data=None):
+    """All that a program writes; an end that is none is told with it."""
+    out = child.communicate(data, timeout=120)[0]
+    return out + (b'ended with status %d\n' % child.returncode if child.returncode else b'')
+
+
+def start(name):
+    return subprocess.Popen([program(name)], stdin=subprocess.PIPE, stdout=subprocess.PIPE, bufsize=0)
+
+
+def run(name, data):
+    with start(name) as child:
+        return ended(child, data)
+
+
+def run_slowly(name, data):
+    """The input in pieces, each written after the program has waited for it."""
+    size = max(1, len(data) // PIECES)
+    with start(name) as child:
+        with contextlib.suppress(BrokenPipeError):    # the program reads no more
+            for at in range(0, len(data), size):
+                child.stdin.write(data[at:at + size])
+                time.sleep(PAUSE)
+        return ended(child)
+
+
+# ---- random input
+
+def differs(name, seed, n):
+    """Input n of a seed: None, or (input, expected, got)."""
+    answer, draw = PROGRAMS[name]
+    data = draw(random.Random('%s %s:%d' % (name, seed, n)))
+    expected, got = answer(data), (run if n % SLOWLY else run_slowly)(name, data)
+    return None if expected == got else (data, expected, got)
+
+
+def report(name, what, found):
+    data, expected, got = found
+    print('%s: %s differs; the input is\n%s\nexpected\n%s\ngot\n%s' % (name, what, data.hex(), expected.decode('latin-1'), got.decode('latin-1')))
+
+
+# ---- the edges
+
+def longest_input():
+    """K = 64 and a book of 4,172 words: all that can be accepted, one word less than is read."""
+    return little(64, 4) + book_bytes(cases.largest())
+
+
+def longest_record():
+    with search.instead_of_enumeration():
+        return ref.record(cases.largest(), 64)
+
+
+def input_edges():
+    """(what, input)"""
+    longest, a = longest_input(), little(3, 4) + book_bytes(tours.book_a())
+    yield 'the longest book', longest
+    yield from (('%d bytes after the longest book' % n, longest + bytes(n)) for n in (1, 2, 3, 4, 5, 6, 7, 8, 70000))
+    yield from (('the first %d bytes of A' % n, a[:n]) for n in (*range(9), len(a) - 1))
+    yield from (('%d bytes after A' % n, a + bytes(n)) for n in range(5))
+
+
+def record_edges():
+    longest, a = longest_record(), ref.record(tours.book_a(), 3)
+    places = {'W': 0, 'K': 4, 'k': 8, 'a word of the book': 12, 'a cost': 12 + 4 * 4172, 'a plan': 12 + 4 * 4172 + 8 * 64, 'the last byte': len(longest) - 1}
+    yield 'the longest record', longest
+    yield from (('%d bytes after the longest record' % n, longest + bytes(n)) for n in (1, 2, 70000))
+    yield 'the longest record without its last byte', longest[:-1]
+    yield from (('the longest record, %s changed' % what, longest[:at] + bytes([longest[at] ^ 1]) + longest[at + 1:]) for what, at in places.items())
+    yield from (('the first %d bytes of the record of A' % n, a[:n]) for n in (0, 1, 11, 12, 13, len(a) - 1, len(a)))
+    yield 'a byte after the record of A', a + b'\0'
+
+
+def edge_differs(name, data):
+    """As differs, at once and through a slow pipe."""
+    expected = PROGRAMS[name][0](data)
+    for got in (run(name, data), run_slowly(name, data)):
+        if expected != got:
+            return data, expected, got
+
+
+def edges():
+    """(program, what, input)"""
+    for name in PROGRAMS:
+        yield from ((name, what, data) for what, data in (record_edges() if name == 'kbest_page' else input_edges()))
+
+
+# ---- the stored input and output
+
+def stored():
+    """For each crate its input and output. If kbest or kbest_file read a word less it would accept the book, and if it counted one byte more it would say 1;
+    if kbest_page read a byte less it would accept the record."""
+    inputs = {'kbest': longest_input() + bytes(5), 'kbest_file': longest_input() + bytes(5), 'kbest_page': longest_record() + bytes(1)}
+    with search.instead_of_enumeration():
+        return {name: (data, PROGRAMS[name][0](data)) for name, data in inputs.items()}
+
+
+def store():
+    for name, parts in stored().items():
+        folder = os.path.join(ROOT, 'crates', name)
+        os.makedirs(folder, exist_ok=True)
+        for part, content in zip(('stdin', 'stdout'), parts):
+            with open(os.path.join(folder, part), 'wb') as f:
+                f.write(content)
+
+
+def compare_edges():
+    """How many are equal, or None after the first that differs. The longest book has too many plans to enumerate, so search.py gives the lists."""
+    asked = 0
+    with search.instead_of_enumeration():
+        for name, what, data in edges():
+            found = edge_differs(name, data)
+            if found:
+                return report(name, what, found)
+            asked += 1
+    return asked
+
+
+def compare(seed, numbers):
+    """Random inputs to each program: are all equal?"""
+    for name in PROGRAMS:
+        for n in numbers:
+            found = differs(name, seed, n)
+            if found:
+                report(name, 'input %d of seed %s' % (n, seed), found)
+                return False
+    return True
+
+
+def main(args):
+    if args[:1] == ['store']:
+        return store()
+    count, seed = int(args[0]) if args else 300, args[1] if len(args) > 1 else '1'
+    asked = compare_edges()
+    if asked is None or not compare(seed, range(count)):
+        return 1
+    print('%d edges and %d random inputs to each of %d programs are equal' % (asked, count, len(PROGRAMS)))
+
+
+if __name__ == '__main__':
+    sys.exit(main(sys.argv[1:]))

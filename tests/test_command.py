@@ -1,0 +1,615 @@
+#!/usr/bin/env python3
+"""Tests of ./kbest with the programs in target/bin, which must be built; the first run with a toolchain that is acted. Run: python3 tests/test_command.py"""
+
+import contextlib
+import fcntl
+import os
+import pty
+import random
+import shutil
+import signal
+import stat
+import subprocess
+import sys
+import tempfile
+import threading
+import time
+import unittest
+
+HERE = os.path.dirname(os.path.abspath(__file__))
+ROOT = os.path.join(HERE, '..')
+sys.path[:0] = [HERE, os.path.join(ROOT, 'tools'), os.path.join(ROOT, 'bindings', 'python')]
+
+import book
+import books
+import cases
+import kinds
+import reference as ref
+import tours
+from kbest import QUESTIONS
+
+KBEST = os.path.join(ROOT, 'kbest')
+PYTHON = sys.executable, '-S'    # with the standard library alone
+A, A_3 = book.text_of_words(tours.book_a()).encode(), ref.record(tours.book_a(), 3)
+OLD = b'as it was\n'
+
+
+def run(*words, data=b'', script=KBEST, **more):
+    return subprocess.run([*PYTHON, script, *words], input=data, capture_output=True, timeout=120, **more)
+
+
+def text(words):
+    return book.text_of_words(words).encode()
+
+
+def reason(number):
+    return b'refused %d: %s\n' % (number, QUESTIONS[number].encode())
+
+
+def accepted_books(count):
+    """Random books that pass 1 to 13, each with a K that is allowed."""
+    rng = random.Random('command')
+    while count:
+        words = books.draw(rng, rng.choice(books.SHAPES))
+        if not ref.check(words):
+            yield words, kinds.some_count(rng, len(ref.in_order(tuple(words))))
+            count -= 1
+
+
+class Folder(unittest.TestCase):
+    """A test with a folder of its own, in which nothing may be left over."""
+
+    def setUp(self):
+        self.folder = tempfile.mkdtemp()
+        self.addCleanup(shutil.rmtree, self.folder)
+
+    def path(self, name):
+        return os.path.join(self.folder, name)
+
+    def file(self, name, content):
+        with open(self.path(name), 'wb') as f:
+            f.write(content)
+        return self.path(name)
+
+    def content(self, name):
+        with open(self.path(name), 'rb') as f:
+            return f.read()
+
+    def expect(self, done, status, out, why=b''):
+        self.assertEqual((done.returncode, done.stdout, done.stderr), (status, out, why))
+
+    def expect_reason(self, done, status):
+        """Nothing on standard output, and on standard error a reason that is no traceback."""
+        self.assertEqual((done.returncode, done.stdout), (status, b''), done.stderr)
+        self.assertTrue(done.stderr.endswith(b'\n'))
+        self.assertNotIn(b'Traceback', done.stderr)
+
+
+class Verbs(Folder):
+    """Each verb, from a file and from standard input, to a file and to standard output."""
+
+    def every_way(self, verb, content, more, result):
+        source = self.file('source', content)
+        self.expect(run(verb, source, *more), 0, result)
+        self.expect(run(verb, '-', *more, data=content), 0, result)
+        self.expect(run(verb, source, *more, '-o', '-'), 0, result)
+        for words, data in (((verb, source, *more), b''), ((verb, '-', *more), content)):
+            self.file('result', OLD)
+            self.expect(run(*words, '-o', self.path('result'), data=data), 0, b'')
+            self.assertEqual(self.content('result'), result)
+        self.assertEqual(sorted(os.listdir(self.folder)), ['result', 'source'])
+
+    def test_print(self):
+        self.every_way('print', A, ['3'], tours.PAGE.encode())
+
+    def test_file(self):
+        self.every_way('file', A, ['3'], A_3)
+
+    def test_page(self):
+        self.every_way('page', A_3, [], tours.PAGE.encode())
+
+    def test_without_a_verb(self):
+        source = self.file('book', A)
+        self.expect(run(source, '3'), 0, tours.PAGE.encode())
+        self.expect(run('-', '3', data=A), 0, tours.PAGE.encode())
+        self.expect(run('-o', self.path('page'), source, '3'), 0, b'')
+        self.assertEqual(self.content('page'), tours.PAGE.encode())
+
+    def test_from_anywhere(self):
+        """By its own name, from another folder, and through a link."""
+        self.file('book', A)
+        os.symlink(os.path.abspath(KBEST), self.path('link'))
+        for command in (os.path.abspath(KBEST), './link'):
+            done = subprocess.run([command, 'book', '3'], cwd=self.folder, capture_output=True)
+            self.expect(done, 0, tours.PAGE.encode())
+
+    def test_check(self):
+        for content, forms in ((A, ([], ['--book'])), (A_3, ([], ['--record']))):
+            source = self.file('source', content)
+            for form in forms:
+                self.expect(run('check', *form, source), 0, b'accepted\n')
+                self.expect(run('check', *form, '-', data=content), 0, b'accepted\n')
+
+    def test_check_takes_form(self):
+        self.expect(run('check', '-'), 1, b'refused 19\n', reason(19))
+        self.expect(run('check', '-', data=b'\0'), 1, b'refused 19\n', reason(19))
+        self.expect(run('check', '--record', '-', data=A), 1, b'refused 19\n', reason(19))
+        self.expect_reason(run('check', '--book', '-', data=A_3), 2)
+        self.expect_reason(run('check', '--book', '-'), 2)
+        self.expect_reason(run('check', '-', data=b'no book'), 2)
+
+    def test_examples(self):
+        """The books of the folder examples, with the tours that they stand for."""
+        for name, words in (('a.txt', tours.book_a()), ('c.txt', tours.book_c())):
+            self.expect(run(os.path.join(ROOT, 'examples', name), '3'), 0, ref.page(b'\3\0\0\0' + book.bytes_of_words(words)))
+
+    def test_help(self):
+        for words in (['-h'], ['--help'], ['file', '-h']):
+            done = run(*words)
+            self.assertEqual((done.returncode, done.stderr), (0, b''))
+            self.assertIn(b'usage: kbest', done.stdout)
+
+
+class RoundTrips(Folder):
+    """file, then page, is print; and all three are what reference.py gives."""
+
+    def round_trip(self, words, k):
+        given = k.to_bytes(4, 'little') + book.bytes_of_words(words)
+        page, record = ref.page(given), ref.filed(given)
+        self.expect(run('print', '-', str(k), data=text(words)), 0, page)
+        self.expect(run('file', '-', str(k), '-o', self.path('record'), data=text(words)), 0, b'')
+        self.assertEqual(self.content('record'), record)
+        self.expect(run('page', self.path('record')), 0, page)
+        self.expect(run('check', self.path('record')), 0, b'accepted\n')
+
+    def refused(self, words, k, number):
+        self.expect(run('print', '-', str(k), data=text(words)), 1, b'refused %d\n' % number, reason(number))
+        self.expect(run('file', '-', str(k), '-o', self.path('none'), data=text(words)), 1, b'', reason(number))
+        self.assertFalse(os.path.exists(self.path('none')))
+
+    def checked(self, form, content, result):
+        done = run('check', '--' + form, '-', data=content)
+        self.expect(done, *((0, b'accepted\n') if result == 'accepted' else (1, b'refused %d\n' % result, reason(result))))
+
+    def test_tours(self):
+        """Every book of the tours with its K, or 3 where the tour has none."""
+        lists = {(tuple(given[0]), given[1] if call in ('page', 'rank', 'write') else 3) for _, call, given, _ in tours.TABLE if call != 'accept'}
+        for words, k in sorted(lists):
+            with self.subTest(words=words, k=k):
+                number = ref.check(list(words)) or ref.count_no(k)
+                self.refused(list(words), k, number) if number else self.round_trip(list(words), k)
+
+    def test_tours_checked(self):
+        """The tours that check a book or a record, with the result that the document gives."""
+        for tour, call, given, result in tours.TABLE:
+            if call in ('check', 'accept'):
+                with self.subTest(tour=tour):
+                    self.checked(*(('book', text(given[0])) if call == 'check' else ('record', given[0])), result)
+
+    def test_random_books(self):
+        for words, k in accepted_books(8):
+            self.round_trip(words, k)
+
+
+class Refusals(Folder):
+    """Status 1: the number on standard output, the question on standard error, and no file."""
+
+    def books(self):
+        """For each question from 1 to 13 a book of which it is the first that is answered no."""
+        at, deep = books.Places(cases.SMALL), books.Places(cases.DEEP)
+        found = {}
+        for _, _, words in [*cases.size_limits(at), *cases.line_limits(at), *cases.word_limits(at, deep)]:
+            found.setdefault(ref.check(words), words)
+        return {number: words for number, words in found.items() if number}
+
+    def each_verb(self, source, number, *verbs):
+        self.file('kept', OLD)
+        for verb, *more in verbs:
+            ways = [[]] if verb == 'check' else [[], ['-o', self.path('none')], ['-o', self.path('kept')]]
+            for way in ways:
+                self.expect(run(verb, source, *more, *way), 1, b'' if verb == 'file' else b'refused %d\n' % number, reason(number))
+        self.assertEqual(self.content('kept'), OLD)
+        self.assertEqual(sorted(os.listdir(self.folder)), ['kept', 'source'])
+
+    def test_books(self):
+        found = self.books()
+        self.assertEqual(set(found), {*range(1, 14)})
+        for number, words in found.items():
+            with self.subTest(number=number):
+                self.each_verb(self.file('source', text(words)), number, ('check',))
+                self.expect(run('print', self.path('source'), '3'), 1, b'refused %d\n' % number, reason(number))
+
+    def test_files(self):
+        self.each_verb(self.file('source', text(tours.book_a(scale=3))), 12, ('print', '3'), ('file', '3'))
+
+    def test_counts(self):
+        source = self.file('source', A)
+        for count in ('0', '65', '4294967295'):
+            self.expect(run('print', source, count), 1, b'refused 14\n', reason(14))
+        self.each_verb(source, 14, ('file', '0'))
+
+    def test_records(self):
+        carried = kinds.head(tours.book_a(scale=3), 3, 2) + book.bytes_of_words(tours.book_a(scale=3))
+        for number, record in ((19, A_3[:11]), (12, carried), (14, tours.record_of_a(65)), (20, tours.record_of_a(1)), (21, A_3[:-1] + b'\1')):
+            with self.subTest(number=number):
+                self.assertEqual(ref.accept(record)[0], number)
+                self.each_verb(self.file('source', record), number, ('page',) if number == 21 else ('check',))
+                self.expect(run('page', self.path('source')), 1, b'refused %d\n' % number, reason(number))
+
+
+class Wrong(Folder):
+    """Status 2: nothing on standard output, a reason on standard error, and no file."""
+
+    def wrong(self, *words, data=A):
+        self.expect_reason(run(*words, data=data), 2)
+
+    def test_commands(self):
+        for words in ([], ['-'], ['print', '-'], ['print'], ['file', '-'], ['page'], ['check'], ['page', '-', '3'], ['print', '-', '3', '4'],
+                      ['unknown', '-', '3'], ['check', '--page', '-'], ['check', '--book', '--record', '-'], ['check', '-', '-o', 'x'],
+                      ['print', '-', '3', '-o'], ['-x', '-', '3']):
+            with self.subTest(words=words):
+                self.wrong(*words)
+
+    def test_counts(self):
+        for verb, count in (('print', '-1'), ('file', '-1'), ('print', 'three'), ('print', '3.0'), ('print', ''), ('print', '+3'), ('print', '4294967296'),
+                            ('file', '4294967296'), ('print', '9' * 5000)):
+            with self.subTest(verb=verb, count=count[:20]):
+                self.wrong(verb, '-', count, '-o', self.path('none'))
+        self.assertEqual(os.listdir(self.folder), [])
+
+    def test_files(self):
+        for path in (self.path('none'), self.folder, ''):
+            for words in (['file', path, '3'], ['page', path], ['check', path], [path, '3']):
+                with self.subTest(words=words):
+                    self.wrong(*words)
+
+    def test_closed_input(self):
+        for words in (['print', '-', '3'], ['page', '-'], ['check', '-']):
+            done = subprocess.run(['sh', '-c', 'exec "$@" <&-', 'sh', *PYTHON, KBEST, *words], capture_output=True)
+            self.expect_reason(done, 2)
+
+    def test_texts(self):
+        for data in (b'', b'scale 2\nplace 0\n', b'scale 2\n\xff', A_3, b'scale ' + b'9' * 5000):
+            for verb in ('print', 'file'):
+                with self.subTest(verb=verb, data=data[:20]):
+                    self.wrong(verb, '-', '3', '-o', self.path('none'), data=data)
+        self.assertEqual(os.listdir(self.folder), [])
+
+    def test_line_is_named(self):
+        self.assertIn(b'-: line 2: unknown word "place"', run('-', '3', data=b'scale 2\nplace 0\n').stderr)
+
+    def test_record_to_terminal(self):
+        """Only a file, or what is no terminal, can take a record."""
+        for words in (['file', '-', '3'], ['file', '-', '3', '-o', '-'], ['file', '-', '3', '-o', '/dev/stdout']):
+            out, status, _ = on_terminal(['stdout'], words, data=A)
+            self.assertEqual((out, status), (b'', 2))
+        out, status, why = on_terminal(['stdout'], ['file', '-', '3'], data=A)
+        self.assertIn(b'-o', why)
+
+    def test_result_over_source(self):
+        for words, content in ((['print', self.path('source'), '3'], A), (['page', self.path('source')], A_3)):
+            self.file('source', content)
+            self.wrong(*words, '-o', self.path('source'))
+            self.assertEqual(self.content('source'), content)
+
+
+def on_terminal(streams, words, data=b'', **more):
+    """Runs the command with some of its streams on a terminal: (what the terminal shows, exit status, what goes to the other of output and error)."""
+    master, slave = pty.openpty()
+    places = {name: slave if name in streams else subprocess.PIPE for name in ('stdout', 'stderr')}
+    with subprocess.Popen([*PYTHON, more.pop('script', KBEST), *words], stdin=subprocess.PIPE, **places, **more) as child:
+        os.close(slave)
+        child.stdin.write(data)
+        child.stdin.close()
+        shown = b''
+        with contextlib.suppress(OSError):    # the end of a terminal that nobody has open
+            while True:
+                part = os.read(master, 4096)
+                if not part:
+                    break
+                shown += part
+        os.close(master)
+        rest = b''.join(stream.read() for stream in (child.stdout, child.stderr) if stream)
+    return shown, child.returncode, rest
+
+
+class Unwritten(Folder):
+    """Status 3: what cannot be written leaves no file behind, and one that was there as it was."""
+
+    def unwritten(self, *words, **more):
+        self.expect_reason(run('print', '-', '3', *words, data=A, **more), 3)
+
+    def test_no_such_folder(self):
+        self.unwritten('-o', self.path('none/page'))
+        self.unwritten('-o', self.path('none/'))
+        self.assertEqual(os.listdir(self.folder), [])
+
+    def test_folder(self):
+        os.mkdir(self.path('page'))
+        self.unwritten('-o', self.path('page'))
+        self.unwritten('-o', '')
+        self.assertEqual((os.listdir(self.folder), os.listdir(self.path('page'))), (['page'], []))
+
+    def test_no_file_can_be_made(self):
+        """In /proc nobody can; in a folder without the permission everybody but root is refused."""
+        self.unwritten('-o', '/proc/page')
+        if os.getuid():
+            self.file('page', OLD)
+            os.chmod(self.folder, 0o555)
+            try:
+                self.unwritten('-o', self.path('page'))
+                self.unwritten('-o', self.path('other'))
+                self.assertEqual((os.listdir(self.folder), self.content('page')), (['page'], OLD))
+            finally:
+                os.chmod(self.folder, 0o755)
+
+    def test_too_large(self):
+        """The limit of a file's size stands for a full disk: a part is written, then no more."""
+        self.file('page', OLD)
+        limited = ['sh', '-c', 'trap "" XFSZ; ulimit -f 1; exec "$@"', 'sh', *PYTHON, '-B', KBEST]
+        for name in ('page', 'other'):
+            done = subprocess.run(limited + ['print', '-', '64', '-o', self.path(name)], input=text(cases.chain(8, 8, 8, 8)), capture_output=True)
+            self.expect_reason(done, 3)
+        self.assertEqual((os.listdir(self.folder), self.content('page')), (['page'], OLD))
+
+    def test_devices(self):
+        with open('/dev/full', 'wb') as full:
+            for words in (['print', '-', '3'], ['print', '-', '0'], ['file', '-', '3'], ['check', '-'], ['-h']):
+                done = subprocess.run([*PYTHON, KBEST, *words], input=A, stdout=full, stderr=subprocess.PIPE)
+                self.assertEqual(done.returncode, 3, words)
+                self.assertIn(b'standard output', done.stderr)
+        self.unwritten('-o', '/dev/full')
+        self.assertTrue(stat.S_ISCHR(os.stat('/dev/full').st_mode))
+        self.expect(run('print', '-', '3', '-o', '/dev/null', data=A), 0, b'')
+        self.assertTrue(stat.S_ISCHR(os.stat('/dev/null').st_mode))
+
+    def test_closed_pipe(self):
+        reading, writing = os.pipe()
+        os.close(reading)
+        done = subprocess.run([*PYTHON, KBEST, '-', '3'], input=A, stdout=writing, stderr=subprocess.PIPE)
+        os.close(writing)
+        self.assertEqual((done.returncode, done.stderr.count(b'\n')), (3, 1))
+        self.assertNotIn(b'Traceback', done.stderr)
+
+    def test_closed_output(self):
+        done = subprocess.run(['sh', '-c', 'exec "$@" >&-', 'sh', *PYTHON, KBEST, '-', '3'], input=A, stderr=subprocess.PIPE)
+        self.assertEqual((done.returncode, done.stderr.count(b'\n')), (3, 1))
+
+    def test_closed_error(self):
+        """The status and the line are all there is."""
+        done = subprocess.run(['sh', '-c', 'exec "$@" 2>&-', 'sh', *PYTHON, KBEST, '-', '0'], input=A, stdout=subprocess.PIPE)
+        self.assertEqual((done.returncode, done.stdout), (1, b'refused 14\n'))
+
+
+class Written(Folder):
+    def test_permissions(self):
+        for mask, mode in ((0o022, 0o644), (0o077, 0o600), (0o002, 0o664)):
+            run('print', '-', '3', '-o', self.path('page'), data=A, preexec_fn=lambda: os.umask(mask))
+            self.assertEqual(stat.S_IMODE(os.stat(self.path('page')).st_mode), mode)
+
+    def test_link_stays(self):
+        self.file('page', OLD)
+        os.symlink('page', self.path('link'))
+        self.expect(run('print', '-', '3', '-o', self.path('link'), data=A), 0, b'')
+        self.assertTrue(os.path.islink(self.path('link')))
+        self.assertEqual(self.content('page'), tours.PAGE.encode())
+
+    def test_output_itself(self):
+        """A result for /dev/stdout goes where standard output goes, after what is there."""
+        with open(self.path('all'), 'wb') as f:
+            f.write(OLD)
+            f.flush()
+            subprocess.run([*PYTHON, KBEST, '-', '3', '-o', '/dev/stdout'], input=A, stdout=f, check=True)
+        self.assertEqual(self.content('all'), OLD + tours.PAGE.encode())
+
+
+# ---- the first run, with an acted toolchain
+
+CRATES = '# a comment: not a crate\nlaws:\npage: laws io    # io is a library\nother: laws\n\nkbest: page io\nkbest_file: page io\nkbest_page: page io\n'
+NEEDED = 'laws', 'page', 'kbest', 'kbest_file', 'kbest_page'
+PROGRAM = '#!/bin/sh\ncat >/dev/null\necho made\n'
+RT = '''#!/bin/sh
+echo "$*" >>calls
+case $ACT in
+wait) echo $$ >pid; sleep 60 & wait ;;
+fail) echo "rt: laws proved (1 s)"; echo "rt: kbest proved, and its run FAILED (0 s)"; echo "why it failed" >&2; exit 1 ;;
+edit) sleep 0.1; touch crates/laws/src/lib.rt ;;
+empty) exit 0 ;;
+slow) sleep 0.7 ;;
+esac
+mkdir -p target/bin target/stamp
+for crate in %s; do
+    echo "logic=proved what the prover says of $crate"
+    if [ -e target/stamp/$crate ]; then
+        echo "rt: $crate proved (unchanged since it was last proved)"
+    else
+        echo "rt: $crate proved (1 s)"
+        case $crate in kbest*) cp program target/bin/$crate ;; esac
+        echo >target/stamp/$crate
+    fi
+done
+echo "rt: kbest ran, and wrote what its file 'stdout' has (0 s)"
+''' % ' '.join(NEEDED)
+
+
+class FirstRun(Folder):
+    """A copy of the command with a small repository around it, and an rt that writes down its calls and makes programs that print `made`."""
+
+    def setUp(self):
+        super().setUp()
+        for name in ('kbest', 'tools/book.py', 'bindings/python/kbest.py'):
+            os.makedirs(os.path.dirname(self.path(name)), exist_ok=True)
+            shutil.copy(os.path.join(ROOT, name), self.path(name))
+        for name in NEEDED + ('other',):
+            os.makedirs(self.path('crates/%s/src' % name))
+            self.file('crates/%s/src/lib.rt' % name, b'')
+        self.file('crates.txt', CRATES.encode())
+        self.program(PROGRAM)
+        os.mkdir(self.path('tool'))
+        self.file('tool/rt', RT.encode())
+        os.chmod(self.path('tool/rt'), 0o755)
+
+    def program(self, source):
+        self.file('program', source.encode())
+        os.chmod(self.path('program'), 0o755)
+
+    def how(self, act=''):
+        return {'script': self.path('kbest'), 'env': dict(os.environ, ACT=act, PATH=self.path('tool') + os.pathsep + os.environ['PATH'])}
+
+    def made(self):
+        self.expect(run('-', '3', data=A, **self.how()), 0, b'made\n')
+
+    def calls(self):
+        with open(self.path('calls')) as f:
+            return f.read().splitlines()
+
+    def later(self, name, seconds):
+        """As if it were changed so many seconds from now."""
+        then = time.time() + seconds
+        os.utime(self.path(name), (then, then))
+
+    def test_silent_and_once(self):
+        self.made()
+        self.made()
+        self.assertEqual(self.calls(), ['check kbest kbest_file kbest_page'])
+        self.assertIn(b'logic=proved', self.content('target/kbest.log'))
+
+    def test_each_program(self):
+        for words in (['print', '-', '3'], ['file', '-', '3'], ['page', '-']):
+            self.expect(run(*words, data=A, **self.how()), 0, b'made\n')
+
+    def test_terminal(self):
+        shown, status, out = on_terminal(['stderr'], ['-', '3'], data=A, **self.how())
+        self.assertEqual((status, out), (0, b'made\n'))
+        said = b'proving and building the programs (some minutes, once): '
+        self.assertEqual(shown, b''.join(b'\r' + said + b'%d of 5 crates' % n for n in range(6)) + b'\r\n')
+        self.assertEqual(on_terminal(['stderr'], ['-', '3'], data=A, **self.how()), (b'', 0, b'made\n'))
+
+    def test_unchanged_crates_count(self):
+        self.made()
+        self.later('crates/page/src/lib.rt', -1)
+        os.remove(self.path('target/kbest.stamp'))
+        for name in ('kbest', 'kbest_file', 'kbest_page'):
+            self.later('target/bin/' + name, -60)
+        shown, status, _ = on_terminal(['stderr'], ['-', '3'], data=A, **self.how())
+        self.assertEqual(status, 0)
+        self.assertIn(b'unchanged', self.content('target/kbest.log'))
+        self.assertTrue(shown.endswith(b': 5 of 5 crates\r\n'))
+        self.made()
+        self.assertEqual(len(self.calls()), 2)
+
+    def test_changes(self):
+        """A file that the programs are made from is changed, or taken away; and one that they are not made from."""
+        self.made()
+        for name, again in (('crates/laws/src/lib.rt', True), ('crates.txt', True), ('crates/page/src', True), ('crates/other/src/lib.rt', False)):
+            before = len(self.calls())
+            self.later(name, 60)
+            self.made()
+            self.assertEqual(len(self.calls()) > before, again, name)
+            self.later(name, -60)
+        before = len(self.calls())
+        os.remove(self.path('target/bin/kbest_page'))
+        self.made()
+        self.assertEqual(len(self.calls()), before + 1)
+        self.assertTrue(os.path.exists(self.path('target/bin/kbest_page')))
+
+    def test_change_while_proving(self):
+        """It may have come too late, whatever the time of the programs."""
+        self.expect(run('-', '3', data=A, **self.how('edit')), 0, b'made\n')
+        self.made()
+        self.assertEqual(len(self.calls()), 2)
+        self.made()
+        self.assertEqual(len(self.calls()), 2)
+
+    def test_built_by_hand(self):
+        self.made()
+        os.remove(self.path('target/kbest.stamp'))
+        self.made()
+        self.assertEqual(len(self.calls()), 1)
+
+    def test_wrong_book_first(self):
+        """What is wrong with the command or the book is said before anything is built."""
+        self.expect_reason(run('-', '3', data=b'no book', **self.how()), 2)
+        self.assertFalse(os.path.exists(self.path('calls')))
+
+    def test_fails(self):
+        for act, why in (('fail', b'why it failed'), ('empty', b'target/bin/kbest_file')):
+            done = run('-', '3', '-o', self.path('page'), data=A, **self.how(act))
+            self.expect_reason(done, 3)
+            self.assertIn(why, done.stderr)
+            shown, status, out = on_terminal(['stderr'], ['-', '3'], data=A, **self.how(act))
+            self.assertEqual((status, out), (3, b''))
+            self.assertIn(why, shown)
+            self.assertIn(b'%d of 5 crates\r\n' % (act == 'fail'), shown)
+        self.assertFalse(os.path.exists(self.path('page')))
+        self.made()
+
+    def test_no_rt(self):
+        os.symlink(sys.executable, self.path('tool/python3'))
+        os.remove(self.path('tool/rt'))
+        done = run('-', '3', data=A, script=self.path('kbest'), env={'PATH': self.path('tool')})
+        self.expect_reason(done, 3)
+        self.assertIn(b'rt is not found', done.stderr)
+
+    def test_two_at_once(self):
+        words = [*PYTHON, self.path('kbest'), 'print', self.file('book', A), '3']
+        both = [subprocess.Popen(words, env=self.how('slow')['env'], stdout=subprocess.PIPE, stderr=subprocess.PIPE) for _ in range(2)]
+        self.assertEqual([child.communicate() for child in both], [(b'made\n', b'')] * 2)
+        self.assertEqual(len(self.calls()), 1)
+
+    def test_waiting_is_said(self):
+        os.mkdir(self.path('target'))
+        with open(self.path('target/kbest.lock'), 'wb') as lock:
+            fcntl.flock(lock, fcntl.LOCK_EX)
+            timer = threading.Timer(0.7, lock.close)
+            timer.start()
+            shown, status, out = on_terminal(['stderr'], ['-', '3'], data=A, **self.how())
+            timer.join()
+        self.assertEqual((status, out), (0, b'made\n'))
+        self.assertTrue(shown.startswith(b'waiting for another run'))
+
+    def test_programs_that_fail(self):
+        self.made()
+        for source in ('exit 1\n', 'kill -9 $$\n', 'exit 0\n', 'echo made; exit 1\n', 'echo refused 77\n'):
+            self.file('target/bin/kbest', b'#!/bin/sh\ncat >/dev/null\n' + source.encode())
+            with self.subTest(source=source):
+                self.expect_reason(run('-', '3', '-o', self.path('page'), data=A, **self.how()), 3)
+                self.expect_reason(run('check', '-', data=A, **self.how()), 3)
+        self.file('target/bin/kbest', b'no program')
+        self.expect_reason(run('-', '3', data=A, **self.how()), 3)
+        self.assertFalse(os.path.exists(self.path('page')))
+
+    def interrupted(self, number, waits, words, act=''):
+        """Sends a signal once a file is there: (exit status, what was said)."""
+        with subprocess.Popen([*PYTHON, self.path('kbest'), *words], env=self.how(act)['env'], stdout=subprocess.PIPE, stderr=subprocess.PIPE,
+                              cwd=self.folder, preexec_fn=lambda: signal.signal(number, signal.SIG_DFL)) as child:
+            for _ in range(1000):
+                if os.path.exists(waits):
+                    break
+                time.sleep(0.01)
+            child.send_signal(number)
+            out, why = child.communicate(timeout=30)
+        return child.returncode, out, why
+
+    def test_interrupted_while_proving(self):
+        source = self.file('book', A)
+        for number in (signal.SIGINT, signal.SIGTERM):
+            found = self.interrupted(number, self.path('pid'), ['print', source, '3', '-o', self.path('page')], 'wait')
+            self.assertEqual(found, (128 + number, b'', b''))
+            self.assertFalse(os.path.exists(self.path('page')))
+            with self.assertRaises(ProcessLookupError):    # rt has ended, too
+                os.kill(int(self.content('pid')), 0)
+            os.remove(self.path('pid'))
+        self.made()
+
+    def test_interrupted_while_running(self):
+        self.made()
+        self.file('target/bin/kbest', b'#!/bin/sh\necho >started\nexec sleep 60\n')
+        source = self.file('book', A)
+        found = self.interrupted(signal.SIGINT, self.path('started'), ['print', source, '3', '-o', self.path('page')])
+        self.assertEqual(found, (130, b'', b''))
+        self.assertFalse(os.path.exists(self.path('page')))
+
+
+if __name__ == '__main__':
+    unittest.main()
