@@ -26,10 +26,10 @@ element-copy-out-m c = omega (arith, state c)
 
 raised-requires : tie.Need-raised-requires
 raised-requires c κs =
-    let s = c .before in (
-      omega (arith, s .pre .0 .checked .sizes .d-is, accepted (s .args .b .now) (s .pre .0 .checked .ok) .sizes .d-high),
-      omega (arith, few s, s .pre .0 .index .to-go (s .args .p) (s .pre .1)),
-    )
+    let s = c .before in
+    let z = s .pre .0 .checked .sizes in
+    let a = accepted (s .args .b .now) (s .pre .0 .checked .ok) .sizes in
+    (omega (arith, z .d-is, a .d-high), omega (arith, few s, s .pre .0 .index .to-go (s .args .p) (s .pre .1), z .h-is, a .h-high))
 
 returns : tie.Need-returns
 returns c =
