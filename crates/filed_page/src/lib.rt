@@ -7,6 +7,9 @@ ghost use Rattle.model.specs.Page.{recordPage, mostPage, mostRecord, putLength,
 // One byte more than the longest record has.
 const MOST_READ: usize = 21309;
 
+// No page is longer.
+const MOST_PAGE: usize = 90112;
+
 // Where a program puts what it reads. A shorter one would cut off the byte by which a record is too long.
 pub fn buffer() -> [u8; MOST_READ]
     ensures { λ r. ⌜ length r ≡ suc mostRecord ⌝ }
@@ -18,7 +21,7 @@ pub fn buffer() -> [u8; MOST_READ]
 pub fn print_record(r: &[u8], out: &mut [u8]) -> usize
     ensures { λ q. ⌜ (q ≡ putLength mostPage (recordPage (now (r .entry))) (length (now (out .entry)))) × (now (out .exit) ≡ putSlice mostPage (recordPage (now (r .entry))) (now (out .entry))) ⌝ }
 {
-    if out.len() < 90112 {
+    if out.len() < MOST_PAGE {
         return 0;
     }
     let a = accept::accept(r);
