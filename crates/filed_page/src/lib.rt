@@ -2,7 +2,8 @@
 ghost use mathlib.Core.Path.{_≡_};
 ghost use Prim.Native.Nat.{suc};
 ghost use lib.ListN.{length};
-ghost use Rattle.model.specs.Page.{recordPage, mostPage, mostRecord, putLength, putSlice};
+ghost use Rattle.model.specs.Page.{recordPage, mostPage, mostRecord};
+ghost use Rattle.page_lines.specs.Put.{Put};
 
 // One byte more than the longest record has.
 const MOST_READ: usize = 21309;
@@ -19,7 +20,7 @@ pub fn buffer() -> [u8; MOST_READ]
 
 // The page of any record, or the line of its refusal, to the front of `out`; gives its length. A slice that may be too short gets nothing.
 pub fn print_record(r: &[u8], out: &mut [u8]) -> usize
-    ensures { λ q. ⌜ (q ≡ putLength mostPage (recordPage (now (r .entry))) (length (now (out .entry)))) × (now (out .exit) ≡ putSlice mostPage (recordPage (now (r .entry))) (now (out .entry))) ⌝ }
+    ensures { λ q. ⌜ Put mostPage (recordPage (now (r .entry))) (now (out .entry)) (now (out .exit)) q ⌝ }
 {
     if out.len() < MOST_PAGE {
         return 0;

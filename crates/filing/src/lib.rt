@@ -1,7 +1,8 @@
 // Filing: from K and a book, as a program has read them, to the bytes of the record.
 ghost use mathlib.Core.Path.{_≡_};
 ghost use lib.ListN.{length};
-ghost use Rattle.model.specs.Page.{filed, mostRecord, putLength, putSlice};
+ghost use Rattle.model.specs.Page.{filed, mostRecord};
+ghost use Rattle.page_lines.specs.Put.{Put};
 
 // No record is longer.
 const MOST_RECORD: usize = 21308;
@@ -15,7 +16,7 @@ pub fn buffer() -> [u8; MOST_RECORD]
 
 // The record of any input, or the line of its refusal, to the front of `out`; gives its length. A slice that may be too short gets nothing.
 pub fn file_record(input: &[u8], out: &mut [u8]) -> usize
-    ensures { λ r. ⌜ (r ≡ putLength mostRecord (filed (now (input .entry))) (length (now (out .entry)))) × (now (out .exit) ≡ putSlice mostRecord (filed (now (input .entry))) (now (out .entry))) ⌝ }
+    ensures { λ r. ⌜ Put mostRecord (filed (now (input .entry))) (now (out .entry)) (now (out .exit)) r ⌝ }
 {
     if out.len() < MOST_RECORD {
         return 0;

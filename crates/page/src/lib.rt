@@ -2,9 +2,10 @@
 ghost use mathlib.Core.Path.{_≡_};
 ghost use Prim.Native.Nat.{_≤_};
 ghost use lib.ListN.{length};
-ghost use Rattle.model.specs.Page.{listPage, page, mostPage, putLength, putSlice};
+ghost use Rattle.model.specs.Page.{listPage, page, mostPage};
 ghost use Rattle.asked.specs.Asked.{Asked};
 ghost use Rattle.text.specs.Text.{Appended};
+ghost use Rattle.page_lines.specs.Put.{Put};
 
 // No page is longer.
 const MOST_PAGE: usize = 90112;
@@ -29,7 +30,7 @@ pub fn put_list(b: &[i32], k: usize, out: &mut [u8]) -> usize
 
 // The page of any input, to the front of `out`; gives its length. A slice that may be too short gets nothing.
 pub fn print_page(input: &[u8], out: &mut [u8]) -> usize
-    ensures { λ r. ⌜ (r ≡ putLength mostPage (page (now (input .entry))) (length (now (out .entry)))) × (now (out .exit) ≡ putSlice mostPage (page (now (input .entry))) (now (out .entry))) ⌝ }
+    ensures { λ r. ⌜ Put mostPage (page (now (input .entry))) (now (out .entry)) (now (out .exit)) r ⌝ }
 {
     if out.len() < MOST_PAGE {
         return 0;

@@ -8,38 +8,52 @@ use native.Mathlib.Nat.{zero-add}
 use native.Mathlib.Omega.{arith}
 use borrow.Author.Tests.{le-leb, lt-leb}
 use lib.Dec.{leb}
-use lib.ListN.{length, drop, length-append}
+use lib.ListN.{length, take, drop, length-append}
+use lib.Seq.{length-take-le}
 use Rattle.model.specs.Calls.{over}
 use Rattle.model.specs.Page.{refusedLine, orRefused, putLength, putSlice}
 use Rattle.bytes_io.proofs.Parts.{written-front}
 use Rattle.text.specs.Text.{Appended}
 
-pub refused-line : (m : ℕ) {n : ℕ} (due : List ℕ) → m ≡ n → (m ≡ 0 → ⊥) → refusedLine m ≡ orRefused n due
-refused-line zero due e h = absurd (h refl)
-refused-line (suc m) due e h = rw (← e)
-
-pub due-is : {n : ℕ} (due : List ℕ) → n ≡ 0 → due ≡ orRefused n due
-due-is due e = rw e
+-- text t is put to the front of a slice, for which `most` places are needed: r is what is given, and out′ the slice afterwards
+pub record Put (most : ℕ) (t out out′ : List ℕ) (r : ℕ) : Type 0 where
+  pub long : r ≡ putLength most t (length out)
+  pub slice : out′ ≡ putSlice most t out
+  -- both follow; they stand here since a part `&out[..r]` asks for them
+  pub inside : r ≤ length out′
+  pub counted : r ≡ length (take r out′)
 
 module _ (most : ℕ) (t out : List ℕ) where
-  pub too-short : length out < most → (0 ≡ putLength most t (length out)) × (out ≡ putSlice most t out)
+  inside-of : {out′ : List ℕ} {r : ℕ} → r ≡ putLength most t (length out) → out′ ≡ putSlice most t out → r ≤ length out′
   unfolding putLength putSlice
-  too-short h = (rw (lt-leb most (length out) h), rw (lt-leb most (length out) h))
-
-  pub put : {out′ : List ℕ} {r : ℕ} → most ≤ length out → r ≡ length t → out′ ≡ over t out
-      → (r ≡ putLength most t (length out)) × (out′ ≡ putSlice most t out)
-  unfolding putLength putSlice
-  put h e o = (rw (le-leb most (length out) h) e, rw (le-leb most (length out) h) o)
-
-  pub put-text : {out′ : List ℕ} {r : ℕ} → most ≤ length out → Appended out 0 t out′ r
-      → (r ≡ putLength most t (length out)) × (out′ ≡ putSlice most t out)
-  put-text h a = put h (a .end ∙ zero-add (length t)) (a .text ∙ written-front out (length t) t refl)
-
-  -- what was put stands within the slice
-  pub put-fits : {out′ : List ℕ} {r : ℕ} → r ≡ putLength most t (length out) → out′ ≡ putSlice most t out → r ≤ length out′
-  unfolding putLength putSlice
-  put-fits {out′} {r} e s = go (leb most (length out)) e s
+  inside-of {out′} {r} e s = go (leb most (length out)) e s
     where
       go : (b : Bool) → r ≡ cond b (length t) 0 → out′ ≡ cond b (over t out) out → r ≤ length out′
       go true e s = omega (arith, e, ap length s, length-append t (drop (length t) out))
       go false e s = omega (arith, e)
+
+  given : {out′ : List ℕ} {r : ℕ} → r ≡ putLength most t (length out) → out′ ≡ putSlice most t out → Put most t out out′ r
+  given {out′} {r} e s = let i = inside-of e s in record { long = e; slice = s; inside = i; counted = sym (length-take-le r out′ i) }
+
+  -- a slice that may be too short gets nothing
+  pub too-short : length out < most → Put most t out out 0
+  unfolding putLength putSlice
+  too-short h = given (rw (lt-leb most (length out) h)) (rw (lt-leb most (length out) h))
+
+  pub put : {out′ : List ℕ} {r : ℕ} → most ≤ length out → r ≡ length t → out′ ≡ over t out → Put most t out out′ r
+  unfolding putLength putSlice
+  put h e o = given (rw (le-leb most (length out) h) e) (rw (le-leb most (length out) h) o)
+
+-- where a question is answered no, the line of its refusal; where none is, what is due
+module _ {most n : ℕ} (due : List ℕ) {out : List ℕ} (h : most ≤ length out) where
+  pub put-refused : (m : ℕ) {out′ : List ℕ} {r : ℕ} → m ≡ n → (m ≡ 0 → ⊥) → Appended out 0 (refusedLine m) out′ r → Put most (orRefused n due) out out′ r
+  put-refused zero e i a = absurd (i refl)
+  put-refused (suc m) e i a =
+      let line = refusedLine (suc m) in
+      rw (← e) (put most line out h (a .end ∙ zero-add (length line)) (a .text ∙ written-front out (length line) line refl))
+
+  pub put-due : {out′ : List ℕ} {r : ℕ} → n ≡ 0 → r ≡ length due → out′ ≡ over due out → Put most (orRefused n due) out out′ r
+  put-due e l o = rw e (put most due out h l o)
+
+  pub put-text : {out′ : List ℕ} {r : ℕ} → n ≡ 0 → Appended out 0 due out′ r → Put most (orRefused n due) out out′ r
+  put-text e a = put-due e (a .end ∙ zero-add (length due)) (a .text ∙ written-front out (length due) due refl)

@@ -11,7 +11,7 @@ use Rattle.model.specs.Page.{listPage, recordPage, mostPage}
 use Rattle.asked.specs.Asked.{Asked}
 use Rattle.record.specs.Passed.{AcceptedRecord, head-passed, accept-says}
 use Rattle.text.proofs.Steps.{spoken}
-use Rattle.page_lines.specs.Put.{refused-line, due-is, too-short, put-text}
+use Rattle.page_lines.specs.Put.{too-short, put-refused, put-text}
 use borrow.Author.Needs.{needs}
 use Rattle.filed_page.proofs.print_record.Statement.{statement}
 use Rattle.filed_page.proofs.print_record.Tie as tie
@@ -34,7 +34,7 @@ returns-2 c =
     let y = c .before .before in
     let t = y .before .before in
     let r = t .before .before in
-    put-text mostPage _ _ (omega arith) (spoken (refused-line _ _ (r .accept .ensures .0) (t .if2 .taken)) (y .put-refused .ensures))
+    put-refused _ (omega arith) _ (r .accept .ensures .0) (t .if2 .taken) (y .put-refused .ensures)
 
 no-book-requires : tie.Need-no-book-requires
 no-book-requires c κs = search needs
@@ -101,8 +101,8 @@ returns-3 c =
     let k = y .before .before .before in
     let w = k .before in
     let e = w .before .before .before .before .before in
-    put-text mostPage _ _ (omega (arith, e .before .before .before .if1 .left))
-    (spoken (ap₂ listPage (book-is w) (k .carried-k .ensures .0) ∙ due-is _ (passed e)) (y .put-list .ensures))
+    put-text _ (omega (arith, e .before .before .before .if1 .left)) (passed e)
+    (spoken (ap₂ listPage (book-is w) (k .carried-k .ensures .0)) (y .put-list .ensures))
 
 pub print-record-spec : {M : Type 1} → statement M
 print-record-spec =

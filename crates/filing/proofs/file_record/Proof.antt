@@ -15,9 +15,8 @@ use Rattle.questions.specs.FirstNo.{passes, none}
 use Rattle.questions.specs.Answers.{goes-on, gives}
 use Rattle.asked.specs.Asked.{Asked, asked-passed}
 use Rattle.record.specs.Lengths.{record-most}
-use Rattle.text.proofs.Steps.{spoken}
 use Rattle.input.specs.Read.{read-asked}
-use Rattle.page_lines.specs.Put.{refused-line, due-is, too-short, put, put-text}
+use Rattle.page_lines.specs.Put.{too-short, put-refused, put-due}
 use borrow.Author.Needs.{needs}
 use Rattle.filing.proofs.file_record.Statement.{statement}
 use Rattle.filing.proofs.file_record.Tie as tie
@@ -56,7 +55,7 @@ returns-2 c =
     let y = c .before .before in
     let t = y .before .before in
     let r = t .before .before in
-    put-text mostRecord _ _ (omega arith) (spoken (refused-line _ _ (r .read .ensures .number) (t .if2 .taken)) (y .put-refused .ensures))
+    put-refused _ (omega arith) _ (r .read .ensures .number) (t .if2 .taken) (y .put-refused .ensures)
 
 array-share-prefix-words : tie.Need-array-share-prefix-words
 array-share-prefix-words c = c .before .before .before .read .ensures .inside
@@ -79,10 +78,9 @@ returns-3 c =
     let h = e .before .before .read .ensures in
     let z = e .if2 .left in
     let a = read-asked h z in
-    let n = due-is _ (sym (h .number) ∙ z) in
-    put mostRecord _ out (omega arith)
-    (length-is out a (omega arith) (h .book z) (h .count z) (y .write .ensures .1) ∙ ap length n)
-    (slice-is out a (omega arith) (h .book z) (h .count z) (y .write .ensures .2) ∙ ap (λ (t : List ℕ). over t out) n)
+    put-due _ (omega arith) (sym (h .number) ∙ z)
+    (length-is out a (omega arith) (h .book z) (h .count z) (y .write .ensures .1))
+    (slice-is out a (omega arith) (h .book z) (h .count z) (y .write .ensures .2))
 
 pub file-record-spec : {M : Type 1} → statement M
 file-record-spec =

@@ -7,7 +7,7 @@ use lib.Seq.{length-take-le}
 use Rattle.model.specs.Page.{listPage, inputNumber, page, mostPage}
 use Rattle.text.proofs.Steps.{spoken}
 use Rattle.input.specs.Read.{read-asked}
-use Rattle.page_lines.specs.Put.{refused-line, due-is, too-short, put-text}
+use Rattle.page_lines.specs.Put.{too-short, put-refused, put-text}
 use borrow.Author.Needs.{needs}
 use Rattle.page.proofs.print_page.Statement.{statement}
 use Rattle.page.proofs.print_page.Tie as tie
@@ -30,7 +30,7 @@ returns-2 c =
     let y = c .before .before in
     let t = y .before .before in
     let r = t .before .before in
-    put-text mostPage _ _ (omega arith) (spoken (refused-line _ _ (r .read .ensures .number) (t .if2 .taken)) (y .put-refused .ensures))
+    put-refused _ (omega arith) _ (r .read .ensures .number) (t .if2 .taken) (y .put-refused .ensures)
 
 array-share-prefix-words : tie.Need-array-share-prefix-words
 array-share-prefix-words c = c .before .before .before .read .ensures .inside
@@ -53,8 +53,7 @@ returns-3 c =
     let e = y .before .before .before .before in
     let h = e .before .before .read .ensures in
     let z = e .if2 .left in
-    put-text mostPage _ _ (omega arith)
-    (spoken (ap₂ listPage (h .book z) (h .count z) ∙ due-is _ (sym (h .number) ∙ z)) (y .put-list .ensures))
+    put-text _ (omega arith) (sym (h .number) ∙ z) (spoken (ap₂ listPage (h .book z) (h .count z)) (y .put-list .ensures))
 
 pub print-page-spec : {M : Type 1} → statement M
 print-page-spec =
