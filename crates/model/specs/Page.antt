@@ -69,35 +69,38 @@ mostInput = 16696
 abbrev pub wholeWords : List ℕ → Bool
 wholeWords read = leb 4 (length read) && eqb (length read % 4) 0
 
+-- K and the book of an input of whole words
 unfoldable pub inputCount : List ℕ → ℕ
 inputCount input = fromBytes (take 4 (take mostInput input))
 
 unfoldable pub inputBook : List ℕ → Words
 inputBook input = wordsOf (length (take mostInput input) / 4 - 1) (drop 4 (take mostInput input))
 
+-- 1 for any other input, else "1 to 14"
 unfoldable pub inputNumber : List ℕ → ℕ
 inputNumber input = cond (wholeWords (take mostInput input)) (askedNumber (inputBook input) (inputCount input)) 1
 
 -- ---- the three programs: from the bytes read to the bytes written
 
--- K and a book in, the printed page out
+-- "The program reads standard input": K and a book in, the printed page out
 unfoldable pub page : List ℕ → List ℕ
 page input = orRefused (inputNumber input) (listPage (inputBook input) (inputCount input))
 
--- K and a book in, the record out
+-- K and a book in, the record of both out
 unfoldable pub filed : List ℕ → List ℕ
 filed input = orRefused (inputNumber input) (recordBytes (inputBook input) (inputCount input))
 
--- a record in, the page of the K and the book that it carries out
+-- a record in, the page of the K and the book that it carries out; refused by the number that accepting gives
 unfoldable pub recordPage : List ℕ → List ℕ
 recordPage bs = orRefused (acceptNumber bs) (listPage (carriedBook bs) (carriedK bs))
 
 -- ---- a text at the front of a lent slice that has `most` places or more; a shorter one gets nothing
 
--- no page is longer; no record is longer
+-- more than any page has
 abbrev pub mostPage : ℕ
 mostPage = 90112
 
+-- as many as the longest record has, "at most 21,308"
 abbrev pub mostRecord : ℕ
 mostRecord = 21308
 

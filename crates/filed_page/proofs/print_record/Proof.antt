@@ -6,7 +6,7 @@ use native.Mathlib.Omega.{arith}
 use lib.ListN.{length, take}
 use lib.Seq.{length-take-le}
 use Rattle.model.specs.Model.{Words}
-use Rattle.model.specs.Record.{carriedK, carriedBook, acceptNumber}
+use Rattle.model.specs.Record.{carriedBook, acceptNumber}
 use Rattle.model.specs.Page.{listPage, recordPage, mostPage}
 use Rattle.asked.specs.Asked.{Asked}
 use Rattle.record.specs.Passed.{AcceptedRecord, head-passed, accept-says}

@@ -1,9 +1,9 @@
 -- Whole words, of which the first is the count and the others the book.
 -- Assumes nothing.
-use mathlib.Core.Path.{_≡_, sym, ap₂, _∙_}
+use mathlib.Core.Path.{sym, ap₂, _∙_}
 use Prim.Native.Nat.{_-_, _/_, _≤_}
 use native.Mathlib.Omega.{arith}
-use lib.ListN.{length, take}
+use lib.ListN.{length}
 use lib.Seq.{length-take-le}
 use Rattle.model.specs.Record.{askedNumber}
 use Rattle.input.proofs.Whole.{too-short, left-over, asked, count-is, book-is, refused}

@@ -1,10 +1,9 @@
 -- The refusal, or the list of the book that was read.
 -- Assumes nothing.
-use mathlib.Core.Path.{_≡_, sym, ap₂, _∙_}
+use mathlib.Core.Path.{sym, ap₂, _∙_}
 use native.Mathlib.Omega.{arith}
-use lib.ListN.{length}
 use lib.Seq.{length-take-le}
-use Rattle.model.specs.Page.{listPage, inputNumber, page, mostPage}
+use Rattle.model.specs.Page.{listPage, page, mostPage}
 use Rattle.text.proofs.Steps.{spoken}
 use Rattle.input.specs.Read.{read-asked}
 use Rattle.page_lines.specs.Put.{too-short, put-refused, put-text}
