@@ -6,27 +6,27 @@ use mathlib.Core.Bool.{Bool, true, false}
 use mathlib.Core.Logic.{_⊎_, inl, inr, _↔_}
 use mathlib.Core.List.{List, [], _∷_}
 use mathlib.Core.Option.{some}
-use Prim.Native.Nat.{ℕ, _+_, _*_, _-_, _^_, _≤_, _<_, min}
+use Prim.Native.Nat.{ℕ, suc, _+_, _*_, _-_, _^_, _≤_, _<_, min}
 use native.Mathlib.Nat.{zero-add, le-trans, mul-le-mul, mul-le-mul-right, pow-le-pow-right}
 use native.Mathlib.Decide.{decLt}
 use native.Mathlib.Omega.{arith}
 use lib.Dec.{T, T-not}
-use lib.IntN.{natAbs}
+use lib.IntN.{pos, natAbs, _*ℤ_, +ℤ-idr}
 use lib.Signed.{_≤ℤ_, _<ℤ_, ltZ, ltZ-yes, ltZ-no, ≤ℤ-refl}
 use lib.ListN.{length, getElem?, take, length-take}
 use lib.Seq.{ext-getD}
 use Rattle.model.specs.Lists.{count, isIn, sorted}
-use Rattle.model.specs.Model.{Words, scale, horizon, stateCount, togo, action, options}
+use Rattle.model.specs.Model.{Words, weightsOf, scale, horizon, stateCount, togo, action, options}
 use Rattle.model.specs.Questions.{largestCost, bookNumber}
 use Rattle.model.specs.Policy.{Policy, nexts, allowed, isPolicy, policies}
-use Rattle.model.specs.Path.{totalWeight, byteAt, taken, paths, policyCost}
+use Rattle.model.specs.Path.{Path, pathWeight, totalWeight, byteAt, taken, paths, policyCost}
 use Rattle.model.specs.Recursion.{costToGo, through, leastToGo, leastCostToGo}
 use Rattle.model.specs.Order.{lower, comesBefore, ranking, rankingCosts}
 use Rattle.model.specs.Calls.{leastCost}
 use Rattle.laws.specs.Int.{≤ℤ-antisym}
 use Rattle.laws.specs.Members.{T-true, true-T, false-T, In, in-one, isIn-in, in-isIn, Apart, at-nexts}
 use Rattle.laws.specs.Sorting.{Strict, Total, apart-take, at-in, apart-sorted, sorted-length, listed as list-entries}
-use Rattle.laws.specs.Paths.{weight-paths, cost-paths}
+use Rattle.laws.specs.Paths.{endsAt, weight-paths, cost-paths, positive-paths, path-ends}
 use Rattle.laws.specs.Bounds.{to-go-bound, through-bound, least-bound}
 use Rattle.laws.specs.Policies.{IsPolicy, policy-length, policy-in, in-policy, policies-apart, reachedFrom, reached-mono, reads, reached-closed}
 use Rattle.laws.specs.Policies.{FirstDifference, differ}
@@ -34,7 +34,7 @@ use Rattle.laws.specs.Order.{Low, Before, lower-is, before-is, before-cost, str
 use Rattle.laws.specs.First.{costFrom0, firstPolicy, is-policy, first-cost, cheapest, comes-first}
 use Rattle.accepted.specs.Facts.{accepted}
 use Rattle.accepted.specs.Options.{Option, Alive, option-small}
-use Rattle.accepted.specs.Shape.{policy-is, shape, lists, togo-start, full, weights-bound, cost-bound}
+use Rattle.accepted.specs.Shape.{policy-is, shape, lists, togo-start, weights-bound, cost-bound}
 use Rattle.laws.specs.Entries.{in-at, some-at, map-at, take-one, count-most, count-none, by-rank}
 use Rattle.laws.specs.Walks.{policy-allowed, allowed-policy, reached-from, low-at}
 
@@ -179,17 +179,39 @@ module _ (ws : Words) (ok : bookNumber ws ≡ 0) where
   -- ---- the cost
 
   module _ (bs : Policy) (t : T (isPolicy ws bs)) where
-    -- "Divided by D^H it is the expected total cost": the weights of a policy's paths add to D^H
+    small : (p : ℕ) → weightsOf (taken ws bs p .transitions) ≤ scale ws
+    unfolding taken
+    small p = weights-bound ws ok p (byteAt bs p)
+
+    -- "Divided by D^H it is the expected total cost": the weights of a policy's paths add to D^H, those of paths that stop included
     pub weights-add : totalWeight (paths ws bs) ≡ scale ws ^ horizon ws
     unfolding paths
-    weights-add = weight-paths (scale ws) (taken ws bs) (horizon ws) 0 (full ws ok bs t)
+    weights-add = weight-paths (scale ws) (taken ws bs) small (horizon ws) 0
 
-    -- "A plan's cost is the sum over all its days of weight × cost." It agrees with equation (4) times D^H
+    -- "summed over every day the plan can meet": no path has weight 0
+    pub each-weight : (path : Path) → In path (paths ws bs) → 1 ≤ pathWeight path
+    unfolding paths taken
+    each-weight = positive-paths (scale ws) (taken ws bs) (λ p. shape ws ok .positive p (byteAt bs p)) (horizon ws) 0
+
+    -- "one post per stage"; "A day may stop after a choice before stage H whose weights add to less than D": a path has H + 1 steps, or it ends earlier
+    -- at such an action
+    pub path-length : (path : Path) → In path (paths ws bs)
+        → (length path ≡ horizon ws + 1)
+        ⊎ ((length path ≤ horizon ws) × (weightsOf (taken ws bs (endsAt 0 path) .transitions) < scale ws))
+    unfolding paths
+    path-length path i = path-ends (scale ws) (taken ws bs) (horizon ws) 0 path i 0
+
+    -- "A plan's cost is the sum over all its days of weight × cost." It agrees with equation (4) times D^H, where nothing comes after a stop
     pub cost-recursion : policyCost ws bs ≡ costToGo (scale ws) (taken ws bs) (horizon ws) 0
     unfolding policyCost paths
-    cost-recursion = cost-paths (scale ws) (taken ws bs) (horizon ws) 0 (full ws ok bs t)
+    cost-recursion = cost-paths (scale ws) (taken ws bs) small (horizon ws) 0
 
-    -- the same, as the laws about the first policy write it
+    -- "r may be 0, a sure stop": nothing is added after such an action
+    pub sure-stop : (m p : ℕ) → taken ws bs p .transitions ≡ []
+        → costToGo (scale ws) (taken ws bs) (suc m) p ≡ pos (scale ws ^ suc m) *ℤ taken ws bs p .cost
+    sure-stop m p e = rw e (+ℤ-idr _)
+
+    -- the cost as the laws about the first policy write it
     pub cost-from : policyCost ws bs ≡ costFrom0 (scale ws) (action ws) (togo ws) bs
     unfolding taken
     cost-from = cost-recursion ∙ ap (λ (m : ℕ). costToGo (scale ws) (taken ws bs) m 0) (sym (togo-start ws ok))

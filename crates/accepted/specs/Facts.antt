@@ -29,7 +29,7 @@ pub record Accepted (ws : Words) : Type 0 where
   pub lines-fit : (p c : ℕ) → p < stateCount ws → c < actionCount ws p → lineAfter ws (actionLine ws p c) ≤ lineCount ws
   -- 11: "Do the next posts of each choice rise strictly and lie within the next stage?"
   pub nexts-allowed : (p c : ℕ) → p < stateCount ws → c < actionCount ws p → nextsAllowed ws (stage ws p) (actionLine ws p c) ≡ true
-  -- 12: "Is every weight from 1 to D, and does each choice's sum to exactly D (before stage H)?"
+  -- 12: "Is every weight from 1 to D", and do each choice's add "to at most D" (before stage H)?
   pub weights-allowed : (p c : ℕ) → p < stateCount ws → c < actionCount ws p → weightsAllowed ws (stage ws p) (actionLine ws p c) ≡ true
   -- 13: "Is D^H × (H + 1) × (largest cost without its sign) at most 4 × 10^18?"
   pub cost-bounded : (p c : ℕ) → p < stateCount ws → c < actionCount ws p → natAbs (right ws (actionLine ws p c)) ≤ largestCost ws
@@ -53,7 +53,7 @@ count-range ws e p l =
 -- ---- 9 to 12
 
 -- a test of every action is one of each
-each-action : (test : Words → ℕ → ℕ → Bool) (ws : Words) → everyAction test ws ≡ true
+pub each-action : (test : Words → ℕ → ℕ → Bool) (ws : Words) → everyAction test ws ≡ true
     → (p c : ℕ) → p < stateCount ws → c < actionCount ws p → test ws (stage ws p) (actionLine ws p c) ≡ true
 unfolding everyAction
 each-action test ws e p c l k =

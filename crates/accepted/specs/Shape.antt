@@ -8,25 +8,22 @@ use mathlib.Core.List.{[], _∷_, map}
 use Prim.Native.Nat.{ℕ, zero, suc, _+_, _-_, _≤_, _<_}
 use native.Mathlib.Nat.{eq-or-lt-of-le, add-zero}
 use native.Mathlib.Omega.{arith}
-use borrow.Author.Tests.{ltb-true, leb-true, eqb-true, lt-ltb, ne-eqb}
-use lib.Dec.{T, eqb, ltb}
+use borrow.Author.Tests.{ltb-true, leb-true, lt-ltb, ne-eqb}
+use lib.Dec.{T, eqb, leb, ltb}
 use lib.IntN.{ℤ, pos, negsuc, natAbs}
 use lib.Signed.{leZ, ltZ}
 use Rattle.model.specs.Lists.{all, sumTo, upFrom}
-use Rattle.model.specs.Model.{Words, Transition, Action, scale, horizon, stageSize, firstState, stateCount, stage, togo, actionCount, left, right}
+use Rattle.model.specs.Model.{Words, Transition, Action, weightsOf, scale, horizon, stageSize, firstState, stateCount, stage, togo, actionCount, left, right}
 use Rattle.model.specs.Model.{branches, actionLine, transitionAt, readAction, noAction, action, options}
 use Rattle.model.specs.Questions.{inside, nextBefore, nextsAllowed, weightSum, weightsAllowed, largestCost, bookNumber}
 use Rattle.model.specs.Policy.{Policy, isPolicy}
-use Rattle.model.specs.Path.{byteAt, taken}
-use Rattle.laws.specs.Members.{In, Every, in-every, every-imp, every-both, in-map, upFrom-in, AtNexts}
-use Rattle.laws.specs.Paths.{weightsOf, Full}
-use Rattle.laws.specs.Best.{Obeys}
+use Rattle.laws.specs.Members.{In, Every, in-every, every-imp, in-map, upFrom-in, AtNexts}
 use Rattle.laws.specs.Policies.{IsPolicy, fits-is}
-use Rattle.laws.specs.First.{Shape, Lists, policy-obeys}
+use Rattle.laws.specs.First.{Shape, Lists}
 use Rattle.questions.specs.Ranges.{and-true, all-at, sum-same, inside-range}
 use Rattle.questions.specs.Stages.{OfStage, stage-is, of-stage, first-mono, first-step, first-zero}
 use Rattle.accepted.specs.Facts.{Accepted, accepted}
-use Rattle.accepted.specs.Options.{Alive, options-rising, option-below, state-alive}
+use Rattle.accepted.specs.Options.{Alive, options-rising, state-alive}
 
 -- a sum by its first term
 sum-front : (n : ℕ) (f : ℕ → ℕ) → sumTo (suc n) f ≡ f 0 + sumTo n (λ (i : ℕ). f (suc i))
@@ -83,7 +80,7 @@ module _ (ws : Words) where
       ∙ ap (λ (m : ℕ). natAbs (right ws m) + sumTo r (λ (i : ℕ). natAbs (right ws (k + suc i)))) (sym (add-zero k))
       ∙ sym (sum-front r (λ (i : ℕ). natAbs (right ws (k + i))))
 
-  weights-read : (n j : ℕ) → weightsOf (readAction ws n j .transitions) ≡ weightSum ws j
+  pub weights-read : (n j : ℕ) → weightsOf (readAction ws n j .transitions) ≡ weightSum ws j
   unfolding readAction weightSum
   weights-read n j = weights-from n (j + 1) (branches ws j)
 
@@ -114,21 +111,21 @@ module _ (ws : Words) (n j : ℕ) (e : nextsAllowed ws n j ≡ true) where
 
 module _ (ws : Words) (n j : ℕ) (e : weightsAllowed ws n j ≡ true) where
   weight-tests : (all (branches ws j) (λ (i : ℕ). inside (pos 1) (pos (scale ws)) (right ws (j + 1 + i))) ≡ true)
-      × ((eqb n (horizon ws) || eqb (weightSum ws j) (scale ws)) ≡ true)
+      × ((eqb n (horizon ws) || leb (weightSum ws j) (scale ws)) ≡ true)
   unfolding weightsAllowed
   weight-tests =
       and-true (all (branches ws j) (λ (i : ℕ). inside (pos 1) (pos (scale ws)) (right ws (j + 1 + i))))
-      (eqb n (horizon ws) || eqb (weightSum ws j) (scale ws)) e
+      (eqb n (horizon ws) || leb (weightSum ws j) (scale ws)) e
 
   weight-range : (i : ℕ) → i < branches ws j → (1 ≤ natAbs (right ws (j + 1 + i))) × (natAbs (right ws (j + 1 + i)) ≤ scale ws)
   weight-range i l =
       inside-range 1 (scale ws) (right ws (j + 1 + i))
       (all-at (branches ws j) (λ (i : ℕ). inside (pos 1) (pos (scale ws)) (right ws (j + 1 + i))) (weight-tests .0) i l)
 
-  weight-sum : n < horizon ws → weightSum ws j ≡ scale ws
-  weight-sum l = eqb-true (weightSum ws j) (scale ws) (rw (ne-eqb n (horizon ws) (λ q. omega arith)) at (weight-tests .1))
+  weight-sum : n < horizon ws → weightSum ws j ≤ scale ws
+  weight-sum l = leb-true (weightSum ws j) (scale ws) (rw (ne-eqb n (horizon ws) (λ q. omega arith)) at (weight-tests .1))
 
-no-weight : (ws : Words) (j : ℕ) → branches ws j ≡ 0 → weightSum ws j ≡ 0
+pub no-weight : (ws : Words) (j : ℕ) → branches ws j ≡ 0 → weightSum ws j ≡ 0
 unfolding weightSum
 no-weight ws j e = rw e
 
@@ -223,14 +220,7 @@ module _ (ws : Words) (ok : bookNumber ws ≡ 0) where
     stays-alive = λ p c a o. every-imp (λ t l. state-alive ws ok (t .next) l) (action ws p c .transitions) (shape .inside p c);
   }
 
-  -- "does each choice's sum to exactly D (before stage H)?"
-  weights-full : (p c : ℕ) → p < stateCount ws → c < actionCount ws p → stage ws p < horizon ws
-      → weightsOf (action ws p c .transitions) ≡ scale ws
-  weights-full p c l k h =
-      rw (action-is ws p c l k, weights-read ws (stage ws p) (actionLine ws p c))
-      (weight-sum ws (stage ws p) (actionLine ws p c) (facts .weights-allowed p c l k) h)
-
-  -- of any state and action, the weights add to at most D
+  -- "a choice's weights as adding to at most D": of any state and action
   pub weights-bound : (p c : ℕ) → weightsOf (action ws p c .transitions) ≤ scale ws
   weights-bound p c =
       by-action ws (λ (a : Action). weightsOf (a .transitions) ≤ scale ws) p c (omega arith)
@@ -245,19 +235,3 @@ module _ (ws : Words) (ok : bookNumber ws ≡ 0) where
   pub cost-bound : (p c : ℕ) → natAbs (action ws p c .cost) ≤ largestCost ws
   unfolding readAction
   cost-bound p c = by-action ws (λ (a : Action). natAbs (a .cost) ≤ largestCost ws) p c (omega arith) (facts .cost-bounded p c)
-
-  -- before stage H the weights of each action that a policy takes add to D
-  full-from : (bs : Policy) (m p : ℕ) → p < stateCount ws → togo ws p ≡ m → Obeys (action ws) (options ws) (byteAt bs) m p
-      → Full (scale ws) (taken ws bs) m p
-  unfolding taken togo
-  full-from bs zero p l e o = tt
-  full-from bs (suc m) p l e o = (
-    weights-full p (byteAt bs p) l (option-below ws p (o .0)) (omega arith),
-    every-both (λ t r n. full-from bs m (t .next) (n .1) (omega arith) r) (action ws p (byteAt bs p) .transitions) (o .1)
-        (next-states p (byteAt bs p)),
-  )
-
-  pub full : (bs : Policy) → T (isPolicy ws bs) → Full (scale ws) (taken ws bs) (horizon ws) 0
-  full bs t =
-      full-from bs (horizon ws) 0 some-state togo-start
-      (policy-obeys (stateCount ws) (action ws) (togo ws) shape (options ws) bs (policy-is ws bs .0 t) (horizon ws))

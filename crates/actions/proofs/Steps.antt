@@ -74,7 +74,7 @@ module _ (ws : Words) (z : Sizes) (are : SizesAre ws z) (n j : ℕ) where
       unfolding weightsAllowed
       weights-last e l = rw (sym weights-are, sym (w .ok-is), e, eq-eqb n (horizon ws) (l ∙ are .h-is))
 
-      pub weights-sum : q .ok ≡ true → (n ≡ z .h → ⊥) → eqb (q .sum) (z .d) ≡ weightsAllowed ws n j
+      pub weights-sum : q .ok ≡ true → (n ≡ z .h → ⊥) → leb (q .sum) (z .d) ≡ weightsAllowed ws n j
       unfolding weightsAllowed
       weights-sum e l =
           rw (sym weights-are, sym (w .ok-is), e, ne-eqb n (horizon ws) (λ k. l (k ∙ sym (are .h-is))), w .sum-is e, sum-are, are .d-is)

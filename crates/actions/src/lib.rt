@@ -11,7 +11,7 @@ ghost use Rattle.book.specs.Read.{SizesAre};
 ghost use Rattle.actions.specs.Action.{nextAllowed, WeighedAs, actionNumber};
 
 // How many transitions an action of a state before stage H has.
-const FEWEST_BRANCHES: i32 = 1;
+const FEWEST_BRANCHES: i32 = 0;
 
 const MOST_BRANCHES: i32 = 16;
 
@@ -102,7 +102,7 @@ fn weights_allowed(b: &[i32], z: Sizes, n: usize, j: usize) -> bool
     }
     let sum = w.sum;
     let d = z.d;
-    sum == d
+    sum <= d
 }
 
 // 9, but for the lines that do not fit: is r, at word i, allowed in a state of stage n?

@@ -7,10 +7,9 @@ use native.Mathlib.Nat.{pow-suc, le-trans, mul-le-mul-left, mul-le-mul-right}
 use native.Mathlib.Omega.{arith}
 use lib.IntN.{ℤ, natAbs}
 use Rattle.model.specs.Model.{Words, scale, stateCount, togo}
-use Rattle.model.specs.Model.{Transition, action}
+use Rattle.model.specs.Model.{Transition, weightsOf, action}
 use Rattle.model.specs.Questions.{largestCost, bookNumber}
 use Rattle.laws.specs.Members.{AtNexts, every-both}
-use Rattle.laws.specs.Paths.{weightsOf}
 use Rattle.accepted.specs.Shape.{shape, weights-bound, cost-bound}
 use Rattle.accepted.specs.Demands.{most-fits}
 use Rattle.costs.specs.Terms.{absExpected, valueAt, most, Bounded}

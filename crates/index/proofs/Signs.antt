@@ -10,7 +10,7 @@ use lib.Dec.{eqb}
 use lib.IntN.{ℤ, pos, negsuc}
 use lib.Signed.{ltZ}
 use Rattle.model.specs.Model.{Words, word, scale, horizon, stateCount, stage, actionCount, left, right, branches, actionLine}
-use Rattle.model.specs.Questions.{inside, branchesAllowed, nextBefore, nextsAllowed, weightsAllowed, bookNumber}
+use Rattle.model.specs.Questions.{inside, fewestBranches, mostBranches, branchesAllowed, nextBefore, nextsAllowed, weightsAllowed, bookNumber}
 use Rattle.questions.specs.Ranges.{and-true, all-at}
 use Rattle.accepted.specs.Facts.{accepted}
 use Rattle.book.specs.declared.Sizes.{Sizes}
@@ -40,9 +40,9 @@ module _ (ws : Words) (ok : bookNumber ws ≡ 0) (p : ℕ) (hp : p < stateCount 
   unfolding branchesAllowed
   first-up = go (eqb (stage ws p) (horizon ws)) (and-true _ _ (accepted ws ok .branches-allowed p c hp hc) .0)
     where
-      go : (b : Bool) → cond b (inside (pos 0) (pos 0) (left ws line)) (inside (pos 1) (pos 16) (left ws line)) ≡ true → NotBelow0 (left ws line)
+      go : (b : Bool) → cond b (inside (pos 0) (pos 0) (left ws line)) (inside (pos fewestBranches) (pos mostBranches) (left ws line)) ≡ true → NotBelow0 (left ws line)
       go true e = from-up 0 (pos 0) _ e
-      go false e = from-up 1 (pos 16) _ e
+      go false e = from-up fewestBranches (pos mostBranches) _ e
 
   nexts-rise : (i : ℕ) → i < branches ws line → ltZ (nextBefore ws line i) (left ws (line + 1 + i)) ≡ true
   unfolding nextsAllowed

@@ -7,10 +7,9 @@ use Prim.Native.Nat.{ℕ, zero, suc, _+_, _*_, _^_, _≤_}
 use native.Mathlib.Nat.{le-trans, add-le-add, mul-le-mul-left, mul-le-mul-right, pow-suc, pow-zero}
 use native.Mathlib.Omega.{arith}
 use lib.IntN.{ℤ, pos, natAbs, _+ℤ_, _*ℤ_}
-use Rattle.model.specs.Model.{Transition, Action}
+use Rattle.model.specs.Model.{Transition, Action, weightsOf}
 use Rattle.model.specs.Recursion.{expected, actionCost, costToGo, bestOf, through, leastToGo}
 use Rattle.laws.specs.Int.{abs-add, abs-mul}
-use Rattle.laws.specs.Paths.{weightsOf}
 
 -- a weight times an integer, and such a product with another integer added
 weighted : (w : ℕ) (z : ℤ) (B : ℕ) → natAbs z ≤ B → natAbs (pos w *ℤ z) ≤ w * B

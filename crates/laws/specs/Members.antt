@@ -1,6 +1,6 @@
 -- The elements of a list: what is one of them, what holds for every one, lists with no element twice, and lists of numbers that rise.
 -- Assumes nothing.
-use mathlib.Core.Path.{_≡_, refl, sym, subst}
+use mathlib.Core.Path.{_≡_, refl, sym, ap₂, subst}
 use mathlib.Core.Bool.{Bool, true, false, not, _||_, _&&_}
 use mathlib.Core.Logic.{_⊎_, inl, inr}
 use mathlib.Core.List.{List, [], _∷_, _++_, map}
@@ -114,6 +114,11 @@ module _ {A B : Type 0} where
   in-map f y [] i = absurd i
   in-map f y (x ∷ xs) (inl e) = (x, e, inl refl)
   in-map f y (x ∷ xs) (inr i) = let r = in-map f y xs i in (r .0, r .1, inr (r .2))
+
+  -- functions that agree on a list's elements map it alike
+  pub map-same : (f g : A → B) (xs : List A) → ((x : A) → In x xs → f x ≡ g x) → map f xs ≡ map g xs
+  map-same f g [] h = refl
+  map-same f g (x ∷ xs) h = ap₂ _∷_ (h x (inl refl)) (map-same f g xs (λ y i. h y (inr i)))
 
   pub map-in : (f : A → B) (x : A) (xs : List A) → In x xs → In (f x) (map f xs)
   map-in f x [] i = i

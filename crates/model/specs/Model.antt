@@ -4,7 +4,7 @@
 -- Assumes nothing.
 use Prim.Native.Nat.{ℕ, zero, suc, _+_, _-_}
 use mathlib.Core.Bool.{_&&_, cond}
-use mathlib.Core.List.{List, [], map}
+use mathlib.Core.List.{List, [], _∷_, map}
 use lib.IntN.{ℤ, pos, natAbs}
 use lib.Dec.{leb, ltb}
 use lib.ListN.{getD}
@@ -90,6 +90,12 @@ pub record Transition : Type 0 where
 pub record Action : Type 0 where
   pub cost : ℤ
   pub transitions : List Transition
+
+-- the sum of transitions' weights (request 2.1: "a choice's weights as adding to at most D, and the missing part is the chance that the tour stops
+-- there")
+abbrev pub weightsOf : List Transition → ℕ
+weightsOf [] = 0
+weightsOf (t ∷ ts) = t .weight + weightsOf ts
 
 -- "the next post, counted from 0 within the next stage (left), and its weight (right)", for a state of stage n
 unfoldable pub transitionAt : Words → ℕ → ℕ → Transition

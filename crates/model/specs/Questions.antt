@@ -1,4 +1,5 @@
 -- The questions 1 to 13 of a book. "Each is put to the whole input before the next. The first "no" gives its number; 0 means accepted."
+-- Request 2.1 changes 9 and 12.
 -- Assumes nothing.
 use Prim.Native.Nat.{ℕ, zero, suc, _+_, _*_, _^_}
 use mathlib.Core.Bool.{Bool, true, false, _&&_, _||_, cond}
@@ -42,9 +43,9 @@ mostAt n h = cond (eqb n h) mostLast 8
 abbrev pub countInside : ℤ → ℕ → ℕ → Bool
 countInside z n h = inside (pos 1) (pos (mostAt n h)) z
 
--- "r from 1 to 16 before stage H", "with r = 0" at stage H
+-- 2.1: "Before stage H, r may be 0"; at most 16; "with r = 0" at stage H
 abbrev pub fewestBranches : ℕ
-fewestBranches = 1
+fewestBranches = 0
 
 abbrev pub mostBranches : ℕ
 mostBranches = 16
@@ -106,14 +107,14 @@ nextsAllowed ws n j =
     all (branches ws j)
     (λ (i : ℕ). ltZ (nextBefore ws j i) (left ws (j + 1 + i)) && ltZ (left ws (j + 1 + i)) (pos (stageSize ws (n + 1))))
 
--- 12: "Is every weight from 1 to D, and does each choice's sum to exactly D (before stage H)?"
+-- 12: "Is every weight from 1 to D", and do each choice's add "to at most D" (before stage H; there are none at it)?
 unfoldable pub weightSum : Words → ℕ → ℕ
 weightSum ws j = sumTo (branches ws j) (λ (i : ℕ). natAbs (right ws (j + 1 + i)))
 
 unfoldable pub weightsAllowed : Words → ℕ → ℕ → Bool
 weightsAllowed ws n j =
     all (branches ws j) (λ (i : ℕ). inside (pos 1) (pos (scale ws)) (right ws (j + 1 + i)))
-    && (eqb n (horizon ws) || eqb (weightSum ws j) (scale ws))
+    && (eqb n (horizon ws) || leb (weightSum ws j) (scale ws))
 
 -- ---- 13
 

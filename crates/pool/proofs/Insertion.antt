@@ -12,7 +12,7 @@ use lib.IntN.{ℤ, pos}
 use lib.ListN.{length, getD, set, take, drop, length-append, length-map, length-set, drop-of-length-le}
 use lib.Seq.{drop-cons, take-suc, take-all, take-at, drop-at, length-take-le, getD-set-same, getD-set-other, paste}
 use Rattle.model.specs.Lists.{insert}
-use Rattle.laws.specs.Members.{In, Every, every-in, ++-in}
+use Rattle.laws.specs.Members.{In, Every, every-in, ++-in, map-same}
 use Rattle.laws.specs.Sorting.{in-take}
 use Rattle.pool.specs.declared.Pool.{Pool}
 use Rattle.stored.specs.Entry.{Entry, earlierEntry}
@@ -67,10 +67,6 @@ insert-at {A} lt f a (x ∷ xs) = go (lt a (f x)) (insert-at lt f a xs)
     go false ih = ap (λ (r : List A). f x ∷ r) ih
 
 -- ---- the entries that are kept
-
-map-same : (f g : ℕ → Entry) (xs : List ℕ) → ((x : ℕ) → In x xs → f x ≡ g x) → map f xs ≡ map g xs
-map-same f g [] h = refl
-map-same f g (x ∷ xs) h = ap₂ _∷_ (h x (inl refl)) (map-same f g xs (λ y i. h y (inr i)))
 
 -- the new entry e stands after those of a and before those of b; nothing of t is kept
 kept : (a b t : List Entry) (e : Entry) (n k : ℕ) → length a + length b ≡ n → n < k → (t ≡ []) ⊎ (n + 1 ≡ k)

@@ -16,13 +16,12 @@ use lib.IntN.{ℤ, pos, _+ℤ_, _-ℤ_, _*ℤ_, +ℤ-assoc, +ℤ-comm, -ℤ-+ℤ
 use lib.Signed.{_≤ℤ_, ≤ℤ-refl}
 use lib.ListN.{take, drop}
 use Rattle.model.specs.Lists.{isIn}
-use Rattle.model.specs.Model.{Transition, Action}
+use Rattle.model.specs.Model.{Transition, Action, weightsOf}
 use Rattle.model.specs.Policy.{Policy, nexts, onward}
 use Rattle.model.specs.Path.{byteAt}
 use Rattle.model.specs.Recursion.{expected, actionCost, costToGo}
 use Rattle.laws.specs.Int.{up, dn, is, dif-eq, ring, eq-in, le-in, le-out, ints, sum-is, scale-mono, ≤ℤ-trans}
 use Rattle.laws.specs.Members.{true-T, In, in-one, in-++, ++-in, Every, every-imp, isIn-in, AtNexts}
-use Rattle.laws.specs.Paths.{weightsOf}
 use Rattle.laws.specs.ToGo.{expected-none, by-stage}
 use Rattle.laws.specs.Policies.{IsPolicy, reachedFrom, reached-mono, Reads, reads}
 

@@ -1,4 +1,5 @@
--- The twelve tours of document 01: one table of calls and answers, and one proof, by computation, that the definitions yield them.
+-- The twelve tours of document 01, as document 02 changes them: one table of calls and answers, and one proof, by computation, that the definitions
+-- yield them.
 -- Assumes nothing.
 use Prim.Native.Nat.{ℕ, _+_, _*_}
 use mathlib.Core.Path.{_≡_, refl}
@@ -112,8 +113,14 @@ tours =
     ∷ record { call = rank bookA (roomFor 65 3); due = refused 14 }
     -- 8
     ∷ record { call = check []; due = refused 1 }
-    -- 9
-    ∷ record { call = check (set bookA 0 (pos 3)); due = refused 12 }
+    -- 9, as request 2.1 has it. With D = 3 the plan 0 0 0 has the days 0, 1 of weight 1 and cost 10 + 4, 0, 2 of weight 1 and cost 10 + 9, and the stop
+    -- after choice 0, whose weights leave 3 - 2 = 1, of cost 10: 14 + 19 + 10 = 43. The plan 1 0 255 has the day 0, 1 of weight 2 and cost 12 + 4 and the
+    -- stop of weight 3 - 2 = 1 and cost 12: 32 + 12 = 44. With D = 1 the weights 1 + 1 of choice 0 add to more than D
+    ∷ record {
+      call = rank (set bookA 0 (pos 3)) (roomFor 3 3);
+      due = listed (pos 43 ∷ pos 44 ∷ []) ((0 ∷ 0 ∷ 0 ∷ []) ∷ (1 ∷ 0 ∷ 255 ∷ []) ∷ []);
+    }
+    ∷ record { call = check (set bookA 0 (pos 1)); due = refused 12 }
     -- 10
     ∷ record { call = check (bookE 44); due = good }
     ∷ record { call = check (bookE 45); due = refused 13 }

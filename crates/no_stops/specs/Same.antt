@@ -1,0 +1,237 @@
+-- "Books without stops give the same records.": where the weights of every action before stage H add to D, the questions give the same number as
+-- without stops, and the paths, the costs, the list and the record are the same.
+-- Assumes nothing.
+use mathlib.Core.Path.{_≡_, refl, sym, ap, ap₂, _∙_}
+use mathlib.Core.Bool.{Bool, true, false, not, _&&_, _||_, cond}
+use mathlib.Core.Logic.{_⊎_, inl, inr, _↔_}
+use mathlib.Core.List.{List, [], _∷_, _++_, map, append-nil}
+use Prim.Native.Nat.{ℕ, zero, suc, _+_, _^_, _≤_, _<_}
+use native.Mathlib.Nat.{eq-or-lt-of-le}
+use native.Mathlib.Omega.{arith}
+use borrow.Author.Tests.{eqb-true, eqb-false, eq-eqb, ne-eqb, le-leb, le-ltb}
+use lib.Dec.{T, eqb, leb, ltb}
+use lib.IntN.{ℤ, pos, negsuc, natAbs}
+use lib.Signed.{ltZ, mag}
+use lib.ListN.{length, take}
+use Rattle.model.specs.Lists.{all, forEach}
+use Rattle.model.specs.Model.{Words, Transition, Action, weightsOf, scale, horizon, lineCount, stateCount, stage, togo, actionCount, left, right}
+use Rattle.model.specs.Model.{branches, lineAfter, stateLine, actionLine, action, options}
+use Rattle.model.specs.Questions.{Question, firstNo, andThen, inside, mostBranches, countsAllowed, everyAction, branchesAllowed, linesAllowed, costAllowed}
+use Rattle.model.specs.Questions.{nextsAllowed, weightSum, weightsAllowed, costsBounded}
+use Rattle.model.specs.Questions.{sizeQuestions, actionQuestions, bookNumber}
+use Rattle.model.specs.Policy.{Policy, isPolicy, policies}
+use Rattle.model.specs.Path.{Step, Path, totalCost, pathsFrom, stopsAfter, byteAt, taken, paths, policyCost}
+use Rattle.model.specs.Order.{lower, before, comesBefore, ranking, rankingCosts}
+use Rattle.model.specs.Record.{listBytes, recordBytes, acceptNumber}
+use Rattle.laws.specs.Members.{In, Every, every-both, AtNexts, map-same}
+use Rattle.laws.specs.Sorting.{sorted-same}
+use Rattle.laws.specs.Best.{Obeys}
+use Rattle.laws.specs.First.{policy-obeys}
+use Rattle.questions.specs.Ranges.{and-true, all-at, all-same}
+use Rattle.questions.specs.FirstNo.{AllYes, passed, after, then-zero}
+use Rattle.questions.specs.Sizes.{sized}
+use Rattle.questions.specs.Stages.{of-stage}
+use Rattle.accepted.specs.Facts.{accepted, each-action}
+use Rattle.accepted.specs.Options.{option-below}
+use Rattle.accepted.specs.Shape.{policy-is, action-is, weights-read, no-weight, shape, togo-start}
+use Rattle.accepted.specs.Demands.{policies-are, in-list}
+use Rattle.record.specs.Demand2.{written-accepted}
+use Rattle.no_stops.specs.Base.{baseBranches, baseLines, baseWeights, baseQuestions, baseNumber, basePathsFrom, basePaths, baseCost, baseRanking}
+use Rattle.no_stops.specs.Base.{baseCosts, baseRecord}
+
+-- the weights of every action before stage H, reached or not, add to D
+abbrev pub NoStops : Words → Type 0
+NoStops ws = (p c : ℕ) → p < stateCount ws → c < actionCount ws p → stage ws p < horizon ws → weightSum ws (actionLine ws p c) ≡ scale ws
+
+-- ---- the questions
+
+-- a word other than 0 is from 0 on exactly if it is from 1 on
+from-one : (z : ℤ) (hi : ℕ) → 1 ≤ natAbs z → inside (pos 0) (pos hi) z ≡ inside (pos 1) (pos hi) z
+from-one (pos n) hi h = rw (le-leb 0 n (omega arith), le-leb 1 n h)
+from-one (negsuc n) hi h = refl
+
+-- tests that agree on every action give one answer
+every-same : (ws : Words) (test other : Words → ℕ → ℕ → Bool)
+    → ((p c : ℕ) → p < stateCount ws → c < actionCount ws p → test ws (stage ws p) (actionLine ws p c) ≡ other ws (stage ws p) (actionLine ws p c))
+    → everyAction test ws ≡ everyAction other ws
+unfolding everyAction
+every-same ws test other h = all-same (stateCount ws) _ _ (λ p l. all-same (actionCount ws p) _ _ (λ c k. h p c l k))
+
+module _ (ws : Words) (full : NoStops ws) (low : 1 ≤ scale ws) where
+  module _ (p c : ℕ) (l : p < stateCount ws) (k : c < actionCount ws p) where
+    abbrev j : ℕ
+    j = actionLine ws p c
+
+    sum-full : eqb (stage ws p) (horizon ws) ≡ false → weightSum ws j ≡ scale ws
+    sum-full e = go (eq-or-lt-of-le (of-stage ws p l .within))
+      where
+        go : (stage ws p ≡ horizon ws) ⊎ (stage ws p < horizon ws) → weightSum ws j ≡ scale ws
+        go (inl q) = absurd (eqb-false (stage ws p) (horizon ws) e q)
+        go (inr h) = full p c l k h
+
+    some-branch : weightSum ws j ≡ scale ws → 1 ≤ branches ws j
+    some-branch e = go (branches ws j) refl
+      where
+        go : (r : ℕ) → branches ws j ≡ r → 1 ≤ r
+        go zero z = absurd (omega (arith, no-weight ws j z))
+        go (suc r) z = omega arith
+
+    branches-same : baseBranches ws (stage ws p) j ≡ branchesAllowed ws (stage ws p) j
+    unfolding branchesAllowed baseBranches branches
+    branches-same = go (eqb (stage ws p) (horizon ws)) refl
+      where
+        go : (b : Bool) → eqb (stage ws p) (horizon ws) ≡ b
+            → (cond b (inside (pos 0) (pos 0) (left ws j)) (inside (pos 1) (pos mostBranches) (left ws j)) && leb (lineAfter ws j) (lineCount ws))
+            ≡ (cond b (inside (pos 0) (pos 0) (left ws j)) (inside (pos 0) (pos mostBranches) (left ws j)) && leb (lineAfter ws j) (lineCount ws))
+        go true e = refl
+        go false e = ap (λ (t : Bool). t && leb (lineAfter ws j) (lineCount ws)) (sym (from-one (left ws j) mostBranches (some-branch (sum-full e))))
+
+    weights-same : baseWeights ws (stage ws p) j ≡ weightsAllowed ws (stage ws p) j
+    unfolding weightsAllowed baseWeights
+    weights-same = go (eqb (stage ws p) (horizon ws)) refl
+      where
+        each : Bool
+        each = all (branches ws j) (λ (i : ℕ). inside (pos 1) (pos (scale ws)) (right ws (j + 1 + i)))
+
+        go : (b : Bool) → eqb (stage ws p) (horizon ws) ≡ b
+            → (each && (b || eqb (weightSum ws j) (scale ws))) ≡ (each && (b || leb (weightSum ws j) (scale ws)))
+        go true e = refl
+        go false e = rw (sum-full e, eq-eqb (scale ws) (scale ws) refl, le-leb (scale ws) (scale ws) (omega arith))
+
+  lines-same : baseLines ws ≡ linesAllowed ws
+  unfolding linesAllowed baseLines
+  lines-same =
+      ap (λ (t : Bool). t && eqb (stateLine ws (stateCount ws)) (lineCount ws)) (every-same ws baseBranches branchesAllowed branches-same)
+
+  -- the questions 8 to 13 by the answers to 9 and 12
+  abbrev answered : Bool → Bool → List (Question Words)
+  answered nine twelve =
+      record { number = 8; asks = countsAllowed }
+      ∷ record { number = 9; asks = λ (_ : Words). nine }
+      ∷ record { number = 10; asks = everyAction costAllowed }
+      ∷ record { number = 11; asks = everyAction nextsAllowed }
+      ∷ record { number = 12; asks = λ (_ : Words). twelve }
+      ∷ record { number = 13; asks = costsBounded }
+      ∷ []
+
+  rest-same : firstNo baseQuestions ws ≡ firstNo actionQuestions ws
+  unfolding firstNo
+  rest-same =
+      ap₂ (λ (nine twelve : Bool). firstNo (answered nine twelve) ws) lines-same (every-same ws baseWeights weightsAllowed weights-same)
+
+-- words without stops get the same number
+pub questions-same : (ws : Words) → NoStops ws → baseNumber ws ≡ bookNumber ws
+unfolding baseNumber bookNumber
+questions-same ws full =
+    after ws sizeQuestions baseQuestions (omega arith) ∙ go (firstNo sizeQuestions ws) refl ∙ sym (after ws sizeQuestions actionQuestions (omega arith))
+  where
+    go : (n : ℕ) → firstNo sizeQuestions ws ≡ n → andThen n (firstNo baseQuestions ws) ≡ andThen n (firstNo actionQuestions ws)
+    go zero e = rest-same ws full (sized ws e .d-low)
+    go (suc n) e = refl
+
+-- "does each choice's sum to exactly D (before stage H)?": a book that the rules without stops accept has none
+pub accepted-full : (ws : Words) → baseNumber ws ≡ 0 → NoStops ws
+unfolding baseNumber baseWeights
+accepted-full ws ok p c l k h =
+    eqb-true (weightSum ws (actionLine ws p c)) (scale ws)
+    (rw (ne-eqb (stage ws p) (horizon ws) (λ q. omega arith)) at sum)
+  where
+    twelve : AllYes baseQuestions ws
+    twelve =
+        passed ws baseQuestions (omega arith)
+        (then-zero (firstNo sizeQuestions ws) (firstNo baseQuestions ws) (sym (after ws sizeQuestions baseQuestions (omega arith)) ∙ ok) .1)
+
+    sum : (eqb (stage ws p) (horizon ws) || eqb (weightSum ws (actionLine ws p c)) (scale ws)) ≡ true
+    sum =
+        and-true (all (branches ws (actionLine ws p c)) (λ (i : ℕ). inside (pos 1) (pos (scale ws)) (right ws (actionLine ws p c + 1 + i))))
+        (eqb (stage ws p) (horizon ws) || eqb (weightSum ws (actionLine ws p c)) (scale ws))
+        (each-action baseWeights ws (twelve .1 .1 .1 .1 .0) p c l k) .1
+
+-- so they accept exactly the accepted books without stops
+pub base-accepts : (ws : Words) → (baseNumber ws ≡ 0) ↔ ((bookNumber ws ≡ 0) × NoStops ws)
+base-accepts ws = (
+  λ ok. let full = accepted-full ws ok in (sym (questions-same ws full) ∙ ok, full),
+  λ h. questions-same ws (h .1) ∙ h .0,
+)
+
+-- ---- the paths
+
+-- before the last stage, the weights of each action taken add to D
+abbrev Full : ℕ → (ℕ → Action) → ℕ → ℕ → Type 0
+Full D taken zero p = Unit {0}
+Full D taken (suc m) p = (weightsOf (taken p .transitions) ≡ D) × AtNexts (Full D taken m) (taken p .transitions)
+
+module _ (D : ℕ) (taken : ℕ → Action) where
+  abbrev stepBy : ℕ → Transition → Step
+  stepBy p t = record { state = p; cost = taken p .cost; weight = t .weight }
+
+  same-by : (m p : ℕ) → ((q : ℕ) → Full D taken m q → pathsFrom D taken m q ≡ basePathsFrom taken m q)
+      → (ts : List Transition) → AtNexts (Full D taken m) ts
+      → forEach (λ (t : Transition). map (λ (path : Path). stepBy p t ∷ path) (pathsFrom D taken m (t .next))) ts
+      ≡ forEach (λ (t : Transition). map (λ (path : Path). stepBy p t ∷ path) (basePathsFrom taken m (t .next))) ts
+  same-by m p ih [] h = refl
+  same-by m p ih (t ∷ ts) h =
+      ap₂ _++_ (ap (map (λ (path : Path). stepBy p t ∷ path)) (ih (t .next) (h .0))) (same-by m p ih ts (h .1))
+
+  no-stop : (m p : ℕ) → weightsOf (taken p .transitions) ≡ D → stopsAfter D m p (taken p) ≡ []
+  no-stop m p e = rw (le-ltb (weightsOf (taken p .transitions)) D (omega arith))
+
+  same-from : (m p : ℕ) → Full D taken m p → pathsFrom D taken m p ≡ basePathsFrom taken m p
+  same-from zero p h = refl
+  same-from (suc m) p h =
+      ap₂ _++_ (same-by m p (same-from m) (taken p .transitions) (h .1)) (no-stop m p (h .0)) ∙ append-nil (basePathsFrom taken (suc m) p)
+
+-- ---- an accepted book without stops
+
+module _ (ws : Words) (ok : bookNumber ws ≡ 0) (full : NoStops ws) where
+  weights-full : (p c : ℕ) → p < stateCount ws → c < actionCount ws p → stage ws p < horizon ws
+      → weightsOf (action ws p c .transitions) ≡ scale ws
+  weights-full p c l k h = rw (action-is ws p c l k, weights-read ws (stage ws p) (actionLine ws p c)) (full p c l k h)
+
+  full-from : (bs : Policy) (m p : ℕ) → p < stateCount ws → togo ws p ≡ m → Obeys (action ws) (options ws) (byteAt bs) m p
+      → Full (scale ws) (taken ws bs) m p
+  unfolding taken togo
+  full-from bs zero p l e o = tt
+  full-from bs (suc m) p l e o = (
+    weights-full p (byteAt bs p) l (option-below ws p (o .0)) (omega arith),
+    every-both (λ t r n. n r) (action ws p (byteAt bs p) .transitions) (o .1)
+        (every-both (λ t (i : t .next < stateCount ws) (s : togo ws p ≡ suc (togo ws (t .next))). full-from bs m (t .next) i (omega arith))
+        (action ws p (byteAt bs p) .transitions) (shape ws ok .inside p (byteAt bs p)) (shape ws ok .step p (byteAt bs p))),
+  )
+
+  -- "A day may stop after a choice before stage H whose weights add to less than D": there is none, so the days are those of document 01
+  pub days-same : (bs : Policy) → T (isPolicy ws bs) → paths ws bs ≡ basePaths ws bs
+  unfolding paths basePaths
+  days-same bs t =
+      same-from (scale ws) (taken ws bs) (horizon ws) 0
+      (full-from bs (horizon ws) 0 (shape ws ok .some-state) (togo-start ws ok)
+      (policy-obeys (stateCount ws) (action ws) (togo ws) (shape ws ok) (options ws) bs (policy-is ws bs .0 t) (horizon ws)))
+
+  pub cost-same : (bs : Policy) → T (isPolicy ws bs) → policyCost ws bs ≡ baseCost ws bs
+  unfolding policyCost baseCost
+  cost-same bs t = ap totalCost (days-same bs t)
+
+  module _ (k : ℕ) where
+    pub list-same : ranking ws k ≡ baseRanking ws k
+    unfolding ranking baseRanking comesBefore
+    list-same = ap (take k) (sorted-same (before (policyCost ws)) (before (baseCost ws)) (policies ws) alike)
+      where
+        alike : (x y : Policy) → In x (policies ws) → In y (policies ws) → before (policyCost ws) x y ≡ before (baseCost ws) x y
+        alike x y i j =
+            ap₂ (λ (a b : ℤ). ltZ a b || (not (ltZ b a) && lower x y)) (cost-same x (policies-are ws ok x .0 i)) (cost-same y (policies-are ws ok y .0 j))
+
+    pub costs-same : rankingCosts ws k ≡ baseCosts ws k
+    unfolding rankingCosts baseCosts
+    costs-same =
+        map-same (policyCost ws) (baseCost ws) (ranking ws k) (λ x i. cost-same x (in-list ws ok k x .0 i .0)) ∙ ap (map (baseCost ws)) list-same
+
+    pub record-same : recordBytes ws k ≡ baseRecord ws k
+    unfolding recordBytes listBytes baseRecord
+    record-same = rw (list-same, costs-same)
+
+-- a record that was written by the rules without stops is accepted
+pub still-accepted : (ws : Words) → baseNumber ws ≡ 0 → Every (λ z. mag z < 2 ^ 31) ws → (k : ℕ) → 1 ≤ k → k ≤ 64
+    → acceptNumber (baseRecord ws k) ≡ 0
+still-accepted ws base words k low high =
+    let h = base-accepts ws .0 base in
+    ap acceptNumber (sym (record-same ws (h .0) (h .1) k)) ∙ written-accepted ws (h .0) words k low high .number
