@@ -1,7 +1,7 @@
-"""The rules of document 01, word by word and without any search: plans and days are enumerated.
+"""The rules of document 01 with the changes of document 02 (2.1), word by word and without any search: plans and days are enumerated.
 
-Written from the document alone. It shares nothing with the proved program, and is slow on purpose: every plan of the book is listed, every day
-of every plan is walked. Words below are those of the document.
+Written from the documents alone. It shares nothing with the proved program, and is slow on purpose: every plan of the book is listed, every day
+of every plan is walked. Words below are those of the documents.
 """
 
 import functools
@@ -39,7 +39,7 @@ class Book:
 
 
 def lines_fit(words):
-    """Question 9: every r as allowed, all lines fit, exactly L used."""
+    """Question 9: every r as allowed, all lines fit, exactly L used. Before stage H, r is from 0, a sure stop, to 16; at stage H it is 0."""
     stages, lines = words[1], words[2]
     sizes = words[3:4 + stages]
     posts = sum(sizes)
@@ -54,7 +54,7 @@ def lines_fit(words):
             r = left[line]
             if post >= last and r != 0:
                 return False
-            if post < last and not 1 <= r <= 16:
+            if post < last and not 0 <= r <= 16:
                 return False
             line += 1 + r
             if line > lines:
@@ -99,7 +99,7 @@ def check(words):
     for post, (_, nexts) in every:
         if any(not 1 <= weight <= book.scale for _, weight in nexts):
             return 12
-        if book.stage[post] < stages and sum(weight for _, weight in nexts) != book.scale:
+        if book.stage[post] < stages and sum(weight for _, weight in nexts) > book.scale:
             return 12
     largest = max(abs(cost) for _, (cost, _) in every)
     if book.scale ** stages * (stages + 1) * largest > 4 * 10 ** 18:
@@ -121,13 +121,26 @@ def plans(book):
     return grow(0, [], {0})
 
 
+def missing_part(book, post, choice):
+    """D less the weights of a choice before stage H: the chance that the tour stops there, over D."""
+    return book.scale - sum(weight for _, weight in book.next_posts(post, choice))
+
+
 def days(book, plan):
-    """All days of a plan, each as (weight, cost): one post per stage, from post 0."""
+    """All days of a plan, each as (weight, cost).
+
+    A day is one post per stage, from post 0, each next post on a line of the choice made: its weight is the product of those lines' weights, its cost the
+    sum of the H + 1 choices' costs. Or it stops after a choice before stage H whose weights add to less than D: its weight takes the missing part there
+    and D for each later stage before H, and its cost counts the choices made.
+    """
     def walk(post, weight, cost):
-        cost += book.choices[post][plan[post]][0]
-        if book.stage[post] == book.stages:
+        stage, choice = book.stage[post], plan[post]
+        cost += book.choices[post][choice][0]
+        if stage == book.stages:
             yield weight, cost
-        for step, part in book.next_posts(post, plan[post]):
+        elif missing_part(book, post, choice) > 0:
+            yield weight * missing_part(book, post, choice) * book.scale ** (book.stages - 1 - stage), cost
+        for step, part in book.next_posts(post, choice):
             yield from walk(step, weight * part, cost)
     return walk(0, 1, 0)
 
