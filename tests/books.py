@@ -1,4 +1,5 @@
-"""Random books for the tests: good ones of many shapes, broken ones, and plans of them. All is drawn from the random.Random that is handed in."""
+"""Random books for the tests: good ones of many shapes, with stops and without, broken ones, and plans of them. All is drawn from the random.Random that is
+handed in. The stored cases hold books of most shapes, so a shape keeps what it draws from a seed."""
 
 import itertools
 
@@ -200,15 +201,180 @@ def vast(rng):
             return words
 
 
-SHAPES = [small, deep, wide, ties, few, unreached, crossing, edge]
+WITHOUT_STOPS = [small, deep, wide, ties, few, unreached, crossing, edge]
 
+
+# ---- shapes with stops: the weights of a choice before stage H add to less than D. Each but post_0_stops is a book of a shape above with lower weights.
+
+def deciding(book):
+    """The choices before stage H, each as (post, choice)."""
+    return [(post, c) for post in range(book.posts) if book.stage[post] < book.stages for c in range(book.counts[post])]
+
+
+def stopping(words):
+    """The choices after which a day may stop."""
+    book = ref.Book(words)
+    return [(post, c) for post, c in deciding(book) if ref.missing_part(book, post, c) > 0]
+
+
+def reachable(book):
+    """The posts that some plan reaches."""
+    found = {0}
+    for post, c in deciding(book):
+        if post in found:
+            found.update(step for step, _ in book.next_posts(post, c))
+    return found
+
+
+def below(rng, scale):
+    """A sum of weights below the scale: 0, a sure stop, or 1, or one less than the scale, or any."""
+    return rng.choice([0, min(1, scale - 1), scale - 1, rng.randrange(scale)])
+
+
+def barely(rng, scale):
+    return rng.choice([min(1, scale - 1), scale - 1])
+
+
+def nothing(rng, scale):
+    return 0
+
+
+def lower(rng, lines, total):
+    """The lines, or some of them, with weights that add to the total."""
+    most = min(len(lines), total)
+    kept = sorted(rng.sample(lines, rng.choice([most, most, rng.randint(min(1, most), most)])))
+    return [(step, weight) for (step, _), weight in zip(kept, weights(rng, total, len(kept)))] if kept else []
+
+
+def lowered(rng, words, where, total=below):
+    """The book with stops at the choices `where`."""
+    book = ref.Book(words)
+    rows = [[(cost, lower(rng, lines, total(rng, book.scale)) if (post, c) in where else lines) for c, (cost, lines) in enumerate(here)]
+            for post, here in enumerate(book.choices)]
+    return build(book.scale, book.sizes, rows)
+
+
+def some(rng, places, share):
+    """About a share of the places, and one at least."""
+    return [place for place in places if rng.random() < share] or [rng.choice(places)]
+
+
+def partly(rng, words, total=below):
+    """The book with stops at few, at many or at all choices."""
+    return lowered(rng, words, some(rng, deciding(ref.Book(words)), rng.choice([0.1, 0.4, 0.8, 1])), total)
+
+
+def without_stops(rng):
+    return rng.choice([small, small, deep, ties, few, unreached, crossing])(rng)
+
+
+def stops(rng):
+    return partly(rng, without_stops(rng))
+
+
+def stops_each_stage(rng):
+    """A choice of each stage stops, at a post that some plan reaches before the weights are lower."""
+    words = without_stops(rng)
+    book = ref.Book(words)
+    found = reachable(book)
+    where = [rng.choice([(post, c) for post, c in deciding(book) if post in found and book.stage[post] == n]) for n in range(book.stages)]
+    return lowered(rng, words, where, barely)
+
+
+def stops_everywhere(rng):
+    """Every choice stops."""
+    words = without_stops(rng)
+    return lowered(rng, words, deciding(ref.Book(words)), rng.choice([below, barely]))
+
+
+def sure_stops(rng):
+    return partly(rng, without_stops(rng), nothing)
+
+
+def post_0_stops(rng):
+    """A sure stop is the only choice of post 0, or one of several: a plan with it reaches no other post."""
+    book = ref.Book(without_stops(rng) if rng.random() < 0.5 else stops(rng))
+    sure, here = (rng.choice([0, rng.choice(book.choices[0])[0]]), []), book.choices[0][:7]
+    here.insert(rng.randint(0, len(here)), sure)
+    return build(book.scale, book.sizes, [rng.choice([here, here, [sure]])] + book.choices[1:])
+
+
+def stops_unreached(rng):
+    """Only choices of posts that no plan reaches stop."""
+    while True:
+        words = rng.choice([unreached, unreached, small, few])(rng)
+        book = ref.Book(words)
+        found = reachable(book)
+        far = [(post, c) for post, c in deciding(book) if post not in found]
+        if far:
+            return lowered(rng, words, some(rng, far, rng.choice([0.3, 1])))
+
+
+def stops_barely(rng):
+    """Sums of exactly 1 or D - 1."""
+    return partly(rng, without_stops(rng), barely)
+
+
+def stops_and_ties(rng):
+    """Few different costs, most of them 0, so that plans that stop tie with plans that go on."""
+    scale, stages = rng.choice([1, 2, 2, 4]), rng.randint(1, 4)
+    few = rng.choice([(0,), (0, 0, 0, 1), (0, 0, 1), (-1, 0, 0, 1)])
+    return partly(rng, fill(rng, scale, random_sizes(rng, stages, 3), 4, 2, lambda r: r.choice(few), rng.choice([300, 10 ** 6])))
+
+
+def stops_and_gains(rng):
+    """Every cost is a gain: a stop is a loss."""
+    scale, stages = scale_of(rng), rng.randint(1, 5)
+    limit = min(most_cost(scale, stages), rng.choice([3, 1000, 100000]))
+    return partly(rng, fill(rng, scale, random_sizes(rng, stages, 3), 4, 3, lambda r: -r.randint(1, limit), rng.choice([4, 300, 10 ** 4])))
+
+
+def stops_deep(rng):
+    """H = 8."""
+    scale = scale_of(rng)
+    words = fill(rng, scale, random_sizes(rng, 8, 3), 3, 2, costs_within(rng, most_cost(scale, 8)), rng.choice([20, 2000, 10 ** 5]))
+    return partly(rng, words, rng.choice([below, barely]))
+
+
+def stops_wide(rng):
+    return partly(rng, wide(rng))
+
+
+def stops_edge(rng):
+    """As edge: question 13 asks for the largest cost of all choices, whatever stops."""
+    return partly(rng, edge(rng), rng.choice([below, barely, nothing]))
+
+
+def stops_many(rng):
+    return partly(rng, many(rng))
+
+
+def stops_large(rng):
+    """64 posts, and the lines that the stops leave of 2,048."""
+    return partly(rng, large(rng))
+
+
+def stops_full(rng):
+    return partly(rng, full(rng), barely)
+
+
+def stops_vast(rng):
+    return partly(rng, vast(rng))
+
+
+WITH_STOPS = [stops, stops_each_stage, stops_everywhere, sure_stops, post_0_stops, stops_unreached, stops_barely, stops_and_ties, stops_and_gains, stops_deep,
+              stops_wide, stops_edge]
+SHAPES = WITHOUT_STOPS + WITH_STOPS
+
+
+# ---- books that the reference can enumerate
 
 def days_at_most(words):
-    """The most days that a plan of an accepted book can have."""
+    """The most days that a plan of an accepted book can have: all that go on to a next post, and one if it stops."""
     book = ref.Book(words)
-    most = [0] * book.posts
-    for post in reversed(range(book.posts)):
-        most[post] = max(sum(most[step] for step, _ in book.next_posts(post, c)) or 1 for c in range(book.counts[post]))
+    most = [1] * book.posts
+    for post in reversed(range(book.first[book.stages])):
+        most[post] = max(sum(most[step] for step, _ in book.next_posts(post, c)) + (ref.missing_part(book, post, c) > 0) for c in range(book.counts[post]))
     return most[0]
 
 
@@ -227,18 +393,18 @@ def count_plans(words, most):
 
 def draw(rng, shape):
     """A book of the shape that the reference can enumerate."""
-    if shape is many:
-        return draw_many(rng)
+    if shape in (many, stops_many):
+        return draw_many(rng, shape)
     while True:
         words = shape(rng)
         if feasible(words):
             return words
 
 
-def draw_many(rng):
+def draw_many(rng, shape):
     """From 1,000 to 20,000 plans."""
     while True:
-        words = many(rng)
+        words = shape(rng)
         if not ref.check(words) and days_at_most(words) <= 64 and 1000 <= count_plans(words, 20000) <= 20000:
             return words
 
@@ -259,7 +425,7 @@ class Places:
         line = 0
         for post in range(book.posts):
             for _, rows in book.choices[post]:
-                (self.heads if rows else self.last_heads).append(line)
+                (self.heads if book.stage[post] < book.stages else self.last_heads).append(line)
                 if rows:
                     self.steps.append(range(line + 1, line + 1 + len(rows)))
                 line += 1 + len(rows)
@@ -350,7 +516,8 @@ def break_11(rng, words, at):
 def break_12(rng, words, at):
     rows = rng.choice(at.steps)
     line = at.right + rng.choice(rows)
-    words[line] = rng.choice([0, -1, at.scale + 1, words[line] + 1, words[line] - 1, WORST, -WORST - 1])
+    above = words[line] + at.scale + 1 - sum(words[at.right + i] for i in rows)    # with it the sum is D + 1
+    words[line] = rng.choice([0, -1, at.scale + 1, above, words[line] - 1, WORST, -WORST - 1])
 
 
 def break_13(rng, words, at):

@@ -5,7 +5,8 @@
     tests/cases.py show SEED N      prints case N of a seed of fresh.py, each command with what is expected; seed `stored` for a stored one
 
 Each rule of document 01 has its cases here: the tours, each question from both sides, which of two comes first, rooms and counts at their limits,
-ties, records with each byte changed, pages, the largest book. Breadth is fresh.py's; a few of its kinds are stored too.
+ties, records with each byte changed, pages, the largest book. After them stand those of document 02: stops. Breadth is fresh.py's; a few of its kinds are
+stored too. New cases are added at the end, so that the others keep their numbers.
 """
 
 import os
@@ -68,9 +69,13 @@ TOUR_COMMANDS = {
 }
 
 
-def tour_cases():
-    for tour, call, arguments, _ in tours.TABLE:
+def rows_of_tours(rows):
+    for tour, call, arguments, _ in rows:
         yield 'tour %d: %s' % (tour, call), TOUR_COMMANDS[call](*arguments)
+
+
+def tour_cases():
+    yield from rows_of_tours(tours.ROWS)
     for name, words in (('A', tours.book_a()), ('A, closing 8', tours.book_a(closing=8)), ('A, cost -10', tours.book_a(cost=-10)), ('C', tours.book_c()),
                         ('tour 10', tours.book_of_tour_10(44)), ('tour 10, gains', tours.book_of_tour_10(-44))):
         yield name, thorough(words, 1, 2, 3)
@@ -98,9 +103,9 @@ def one_choice(scale, sizes, cost=1):
     return books.build(scale, sizes, rows)
 
 
-def each(question, what, place, *values):
-    """SMALL with one word made each of the values."""
-    return [(question, '%s %d' % (what, x), with_words(SMALL, (place, x))) for x in values]
+def each(question, what, place, *values, words=SMALL):
+    """The book with one word made each of the values."""
+    return [(question, '%s %d' % (what, x), with_words(words, (place, x))) for x in values]
 
 
 def size_limits(at):
@@ -151,10 +156,14 @@ def word_limits(at, deep):
         yield from ((13, '%s %d' % (what, x), with_words(DEEP, (deep.right + line, x))) for x in (5000, 5001, -5000, -5001))
 
 
+def limits(rows):
+    for question, what, words in rows:
+        yield 'question %d: %s' % (question, what), list(kinds.carried(words, 3, 1)) if ref.check(words) else thorough(words, 2)
+
+
 def limit_cases():
     at, deep = books.Places(SMALL), books.Places(DEEP)
-    for question, what, words in [*size_limits(at), *line_limits(at), *word_limits(at, deep)]:
-        yield 'question %d: %s' % (question, what), list(kinds.carried(words, 3, 1)) if ref.check(words) else thorough(words, 2)
+    yield from limits([*size_limits(at), *line_limits(at), *word_limits(at, deep)])
 
 
 # A fault for each question that leaves the others in place.
@@ -172,15 +181,20 @@ FAULTS = {
 }
 
 
-def order_cases():
+def two_faults(faults):
     """Two questions are answered no, and so are 14 to 18 and 20: the first of all counts."""
-    at, row = books.Places(DEEP), sorted([7, *FAULTS])
+    at, row = books.Places(DEEP), sorted([7, *faults])
     for p in row:
         for q in row:
             if p < q:
-                words = with_words(DEEP, *(FAULTS[n](at) for n in (p, q) if n != 7)) + [0] * (7 in (p, q))
+                words = with_words(DEEP, *(faults[n](at) for n in (p, q) if n != 7)) + [0] * (7 in (p, q))
                 assert ref.check(words) == p, 'the faults of %d and %d give %d' % (p, q, ref.check(words))
-                yield 'questions %d and %d' % (p, q), list(kinds.carried(words, 65, 0, b'1'))
+                yield p, q, list(kinds.carried(words, 65, 0, b'1'))
+
+
+def order_cases():
+    for p, q, commands in two_faults(FAULTS):
+        yield 'questions %d and %d' % (p, q), commands
 
 
 # ---- questions 14 to 18
@@ -300,16 +314,131 @@ def largest_case():
         return Case('the largest book and the longest record', thorough(words, 64), True)
 
 
+# ---- stops: the weights of a choice before stage H add to less than D (2.1 of document 02)
+
+# Post 0 may stop, stops surely, or goes on; post 1 goes on or may stop; post 2 may stop.
+STOPS = books.build(4, [1, 2, 2], [[(7, [(0, 1), (1, 2)]), (9, []), (6, [(1, 4)])], [(2, [(0, 2), (1, 2)]), (-3, [(0, 1)])], [(5, [(1, 3)])],
+                                   [(1, [])], [(6, [])]])
+
+
+def one_post(scale, *choices):
+    """Post 0 with these choices, and a post of stage 1 whose closing cost is 2."""
+    return books.build(scale, [1, 1], [list(choices), [(2, [])]])
+
+
+def row_of_posts(scale, *rows):
+    """One post a stage: (cost, weight) for each choice, without a line where the weight is 0."""
+    return books.build(scale, [1] * (len(rows) + 1), [[(cost, [(0, weight)] * (weight > 0)) for cost, weight in row] for row in rows] + [[(1, [])]])
+
+
+def place_cases():
+    deep = books.Places(DEEP)
+    for n in range(deep.stages):
+        post = deep.book.first[n]
+        step = next(rows[0] for rows, (at, _) in zip(deep.steps, books.deciding(deep.book)) if at == post)
+        yield 'a stop at stage %d of %d' % (n, deep.stages), thorough(with_words(DEEP, (deep.right + step, 35 - n)), 2)
+    yield 'every choice stops, D 5', thorough(with_words(SMALL, (0, 5)), 3)
+    yield 'every choice stops, D 100', thorough(with_words(SMALL, (0, 100)), 3)
+    yield 'C with D 2', thorough(with_words(tours.book_c(), (0, 2)), 64)
+    yield 'stops at some choices', thorough(STOPS, 1, 4)
+    later = [[(5, [(0, 2), (1, 1)])], [(3, [])], [(1, [])], [(6, [])]]
+    go_on = [(2, [(0, 1), (1, 1)]), (8, [(1, 3)])]
+    yield 'a sure stop at post 0', thorough(books.build(3, [1, 2, 2], [[(9, [])]] + later), 2)
+    for i in range(3):
+        yield 'a sure stop at post 0 as choice %d' % i, thorough(books.build(3, [1, 2, 2], [go_on[:i] + [(9, [])] + go_on[i:]] + later), 3)
+    yield 'a sure stop at every stage, or on', thorough(row_of_posts(2, [(3, 2), (4, 0)], [(-2, 1), (0, 0)], [(5, 0), (4, 2)]), 64)
+    yield 'every choice stops surely', thorough(row_of_posts(2, [(3, 0), (4, 0)], [(-2, 0)], [(5, 0)]), 2)
+    yield 'only posts that no plan reaches stop', thorough(books.build(2, [1, 2, 1], [[(1, [(0, 2)])], [(2, [(0, 2)])], [(3, [(0, 1)]), (4, [])], [(5, [])]]), 2)
+
+
+def stop_limits():
+    """(question, what, book) on both sides of the questions 9, 12 and 13."""
+    at = books.Places(STOPS)
+    yield from each(9, 'r of a sure stop:', at.left + at.heads[1], LOW, -1, 0, 1, 16, 17, HIGH, words=STOPS)
+    yield 9, 'a line after a sure stop', with_words(one_post(1, (5, [(0, 1)])), (7, 0))
+    yield 9, 'no line for stage H after a sure stop', [1, 1, 1, 1, 1, 1, 1, 0, 5]
+    yield 9, 'r 0 at both stages', one_post(1, (5, []))
+    yield 9, 'r 1 at stage H with its line', books.build(1, [1, 1], [[(5, [])], [(2, [(0, 1)])]])
+    yield from ((12, 'weight %d of 4' % x, one_post(4, (5, [(0, x)]))) for x in (-1, 0, 1, 3, 4, 5))
+    yield from ((12, 'weights %d and %d of 4' % pair, books.build(4, [1, 2], [[(5, [(0, pair[0]), (1, pair[1])])], [(2, [])], [(3, [])]]))
+                for pair in ((1, 1), (2, 1), (2, 2), (2, 3), (4, 1), (0, 4)))
+    yield from ((12, 'weight %d of 100' % x, one_post(100, (5, [(0, x)]))) for x in (1, 99, 100, 101))
+    sixteen = [[(5, [(i, 1) for i in range(16)])]] + [[(i, [])] for i in range(16)]
+    yield from ((12, '16 weights of 1, D %d' % d, books.build(d, [1, 16], sixteen)) for d in (15, 16, 17))
+    yield 12, 'D 1 and two weights', books.build(1, [1, 2], [[(5, [(0, 1), (1, 1)])], [(2, [])], [(3, [])]])
+    yield 12, 'a sum of D + 1 at a post that no plan reaches', books.build(2, [1, 1, 2], [[(5, [])], [(1, [(0, 2), (1, 1)])], [(2, [])], [(3, [])]])
+    for weight in (0, 99):
+        yield from ((13, 'every weight %d of 100, H 8, cost %d' % (weight, cost), books.build(100, [1] * 9, [[(cost, [(0, weight)] * (weight > 0))]] * 8
+                                                                                            + [[(cost, [])]])) for cost in (44, -44, 45, -45))
+
+
+def stop_order_cases():
+    """As order_cases, where the fault for 12 is a sum of D + 1."""
+    for p, q, commands in two_faults({**FAULTS, 12: lambda at: (at.right + at.steps[0][0], 41)}):
+        if 12 in (p, q):
+            yield 'questions %d and %d, the sum of weights D + 1' % (p, q), commands
+    at = books.Places(DEEP)
+    words = with_words(DEEP, (at.right + at.steps[0][0], 41), (at.left + at.steps[-1][0], 1))
+    yield 'a sum of D + 1 before a next post that is none: question 11', list(kinds.carried(words, 65, 0, b'1'))
+
+
+def stop_list_cases():
+    """Ties between plans that stop and plans that go on; what is no plan; records."""
+    yield 'D 1, a sure stop that ties', thorough(one_post(1, (5, []), (3, [(0, 1)])), 1, 2)
+    ways = [(4, [(0, 1)]), (5, []), (3, [(0, 2)])]    # each costs 10: 4 × 2 + 2, 5 × 2, 3 × 2 + 2 × 2
+    yield 'a stop, a sure stop and a full plan that tie', thorough(one_post(2, *ways), 1, 3)
+    yield 'the same in another order', thorough(one_post(2, *reversed(ways)), 2)
+    yield 'all plans cost 0, and many stop', thorough(row_of_posts(2, *[[(0, 1), (0, 0), (0, 2)]] * 3), 64)
+    for name, words in (('a book with stops', STOPS), ('a book with a sure stop at post 0', one_post(1, (5, []), (4, [(0, 1)])))):
+        yield 'no plans of ' + name, book(words) + list(not_plans(words))
+    a = tours.book_a(scale=3)
+    for name, words in (('A with D 3', a), ('a book with stops', STOPS)):
+        yield 'the record of %s, each byte with bit 1 flipped' % name, flipped(ref.record(words, 2), 1)
+    yield 'other lists for a book with stops', list(kinds.forged_lists(STOPS, 3))
+    short = kinds.as_record(a, 3, 2, [(32, (1, 0, 255)), (33, (0, 0, 0))])
+    yield 'the record of A with D 3, costs without the days that stop', [put(short), accept(len(short))]
+
+
+def largest_with_stops():
+    """64 posts, H = 8, 2,048 lines; one choice in eight stops surely and most others may stop."""
+    rng, sizes, rows = random.Random('largest with stops'), [1, 7] + [8] * 7, []
+    counts = [0] * 56 + [4] * 368 + [5] * 24    # lines below each choice's first
+    rng.shuffle(counts)
+    for n, size in enumerate(sizes[:-1]):
+        here = [counts.pop() for _ in range(8 * size)]
+        choices = [(rng.randint(-500, 3000), books.nexts(rng, rng.randint(7, 10), sizes[n + 1], r) if r else []) for r in here]
+        rows += [choices[i:i + 8] for i in range(0, len(choices), 8)]
+    return books.build(10, sizes, rows + [[(rng.randint(0, 99), [])] for _ in range(8)])
+
+
+def largest_with_stops_case():
+    words = largest_with_stops()
+    with search.instead_of_enumeration():
+        calls = [Command('check'), Command('least')] + ranked(words, 64) + filed(words, 64) + printed(words, 3)
+        return Case('the largest book with stops', book(words) + calls, True)
+
+
 # ---- all of them
 
 DRAWN = {'small': 6, 'deep': 2, 'wide': 1, 'ties': 5, 'few': 3, 'unreached': 3, 'crossing': 6, 'many': 1, 'edge': 2, 'full': 1, 'faults': 6, 'noise': 8}
+DRAWN_STOPS = {'stops': 3, 'post_0_stops': 1, 'stops_deep': 1, 'stops_each_stage': 1, 'stops_everywhere': 1, 'stops_edge': 2, 'stops_unreached': 1,
+               'sure_stops': 1, 'stops_barely': 1, 'stops_and_ties': 2, 'stops_and_gains': 1, 'stops_wide': 1, 'stops, faults': 3}
+
+
+def made(*groups):
+    return [Case(title, commands) for group in groups for title, commands in group]
+
+
+def drawn(counts, start=0):
+    names = [name for name, count in counts.items() for _ in range(count)]
+    return [kinds.make('stored', start + n, name) for n, name in enumerate(names)]
 
 
 def stored():
-    made = [case for group in (tour_cases, limit_cases, order_cases, lent_cases, list_cases, record_cases, page_cases, power_cases) for case in group()]
-    cases = [Case(title, commands) for title, commands in made] + [largest_case()]
-    drawn = [name for name, count in DRAWN.items() for _ in range(count)]
-    cases += [kinds.make('stored', n, name) for n, name in enumerate(drawn)]
+    cases = made(tour_cases(), limit_cases(), order_cases(), lent_cases(), list_cases(), record_cases(), page_cases(), power_cases()) + [largest_case()]
+    cases += drawn(DRAWN)
+    cases += made(rows_of_tours(tours.MORE_ROWS), place_cases(), limits(stop_limits()), stop_order_cases(), stop_list_cases()) + [largest_with_stops_case()]
+    cases += drawn(DRAWN_STOPS, sum(DRAWN.values()))
     return [case._replace(title='%d %s' % (n, case.title)) for n, case in enumerate(cases)]
 
 

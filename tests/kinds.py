@@ -90,7 +90,7 @@ def good(rng, words):
 
 def vast(rng):
     """All calls on a book that has too many plans to enumerate."""
-    words = books.vast(rng)
+    words = rng.choice([books.vast, books.stops_vast])(rng)
     most = rng.choice([64, 64, rng.randint(2, 63)])
     with search.instead_of_enumeration():
         listed, record = ref.ranking(words, most), ref.record(words, most)
@@ -131,8 +131,12 @@ def carried(words, most, k, tail=b''):
     yield page(4 + 4 * len(words))
 
 
-def faulty(rng, faults):
-    words = books.draw(rng, rng.choice([books.small, books.few, books.wide, books.edge]))
+FAULTY = [books.small, books.few, books.wide, books.edge]
+FAULTY_STOPS = [books.stops, books.stops_everywhere, books.sure_stops, books.stops_barely, books.stops_wide, books.stops_edge]
+
+
+def faulty(rng, faults, shapes=FAULTY + FAULTY_STOPS):
+    words = books.draw(rng, rng.choice(shapes))
     if ref.check(words):
         return words
     for _ in range(50):
@@ -199,7 +203,7 @@ def some_plans(rng):
     """A book of three plans or more, and K."""
     listed = []
     while len(listed) < 3:
-        words = books.draw(rng, rng.choice([books.small, books.ties, books.few]))
+        words = books.draw(rng, rng.choice([books.small, books.ties, books.few, books.stops, books.stops_and_ties, books.post_0_stops]))
         listed = [] if ref.check(words) else ref.in_order(tuple(words))
     return words, min(64, rng.choice([2, 3, 5, len(listed), len(listed) + 1]))
 
@@ -227,12 +231,12 @@ def any_input(rng):
     kind = rng.randrange(12)
     if kind == 0:
         return bytes(rng.randrange(256) for _ in range(rng.randrange(9)))
-    words = books.draw(rng, rng.choice(books.SHAPES + [books.large] if rng.random() < 0.1 else books.SHAPES))
+    words = books.draw(rng, rng.choice([books.large, books.stops_large] if rng.random() < 0.01 else books.SHAPES))
     k = rng.choice([1, 2, 3, 64, rng.randint(1, 64)])
     if kind == 1:
         k = rng.choice([0, 65, 256, 2 ** 31, 2 ** 32 - 1])
     if kind in (2, 3):
-        words = faulty(rng, rng.sample(books.BREAKS, rng.randint(1, 3)))
+        words = faulty(rng, rng.sample(books.BREAKS, rng.choice([1, 1, 1, 2, 3])))
     data = machine.little(k, 4) + book_bytes(words)
     if kind == 4:
         return data + bytes(rng.randint(1, 3))
@@ -285,7 +289,7 @@ def any_record(rng):
         return rng.choice(list(other_lists(*some_plans(rng))))
     words = books.draw(rng, rng.choice(books.SHAPES))
     if kind == 2 or ref.check(words):
-        words = faulty(rng, rng.sample(books.BREAKS, rng.randint(1, 3)))
+        words = faulty(rng, rng.sample(books.BREAKS, rng.choice([1, 1, 1, 2, 3])))
         return head(words, rng.choice([3, 64, bad_count(rng) % 2 ** 32]), rng.randrange(3)) + book_bytes(words) + bytes(rng.choice([0, 11]))
     if kind in (3, 4):
         return bent_record(rng, words)
@@ -309,15 +313,19 @@ def fault(n):
     return lambda rng: refused(rng, faulty(rng, [books.BREAKS[n - 1]]))
 
 
-def faults(rng):
-    return refused(rng, faulty(rng, rng.sample(books.BREAKS, rng.randint(2, 4))))
+def faults(shapes):
+    return lambda rng: refused(rng, faulty(rng, rng.sample(books.BREAKS, rng.randint(2, 4)), shapes))
 
 
-SHAPES = {'small': 250, 'deep': 130, 'wide': 56, 'ties': 140, 'few': 150, 'unreached': 80, 'crossing': 110, 'many': 30, 'edge': 80, 'large': 10, 'full': 4}
+SHAPES = {'small': 250, 'deep': 130, 'wide': 56, 'ties': 140, 'few': 150, 'unreached': 80, 'crossing': 110, 'many': 30, 'edge': 80, 'large': 10, 'full': 4,
+          'stops': 250, 'stops_each_stage': 100, 'stops_everywhere': 100, 'sure_stops': 80, 'post_0_stops': 60, 'stops_unreached': 50, 'stops_barely': 80,
+          'stops_and_ties': 150, 'stops_and_gains': 80, 'stops_deep': 80, 'stops_wide': 50, 'stops_edge': 80, 'stops_many': 20, 'stops_large': 10,
+          'stops_full': 4}
 KINDS = {name: (weight, good_of(getattr(books, name))) for name, weight in SHAPES.items()}    # how often each is drawn, and how it is made
 KINDS.update({'fault %d' % n: (36, fault(n)) for n in range(1, 14)})
-KINDS.update({'vast': (12, vast), 'faults': (200, faults), 'wild': (60, wild), 'bad counts': (60, bad_counts), 'noise': (140, noise),
-              'forged': (36, forged), 'longest': (4, longest), 'powers': (10, powers), 'page': (200, some_page)})
+KINDS.update({'vast': (16, vast), 'faults': (120, faults(FAULTY)), 'stops, faults': (120, faults(FAULTY_STOPS)), 'wild': (60, wild),
+              'bad counts': (60, bad_counts), 'noise': (140, noise), 'forged': (36, forged), 'longest': (4, longest), 'powers': (10, powers),
+              'page': (200, some_page)})
 
 
 def make(seed, n, name):

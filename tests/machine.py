@@ -172,6 +172,16 @@ def transcript(case):
         return [(c, machine.run(c)) for c in whole(case)]
 
 
+def books_of(case):
+    """The words of each book that a case makes."""
+    machine = Machine()
+    for c in whole(case):
+        if c.kind in ('read', 'book'):
+            machine.run(c)
+        if c.kind == 'book':
+            yield machine.words
+
+
 def expected(cases):
     return ''.join(text for case in cases for _, text in transcript(case))
 

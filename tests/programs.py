@@ -80,24 +80,26 @@ def longest_input():
     return little(64, 4) + book_bytes(cases.largest())
 
 
-def longest_record():
+def longest_record(words):
     with search.instead_of_enumeration():
-        return ref.record(cases.largest(), 64)
+        return ref.record(words, 64)
 
 
 def input_edges():
     """(what, input)"""
     longest, a = longest_input(), little(3, 4) + book_bytes(tours.book_a())
     yield 'the longest book', longest
+    yield 'the longest book with stops', little(64, 4) + book_bytes(cases.largest_with_stops())
     yield from (('%d bytes after the longest book' % n, longest + bytes(n)) for n in (1, 2, 3, 4, 5, 6, 7, 8, 70000))
     yield from (('the first %d bytes of A' % n, a[:n]) for n in (*range(9), len(a) - 1))
     yield from (('%d bytes after A' % n, a + bytes(n)) for n in range(5))
 
 
 def record_edges():
-    longest, a = longest_record(), ref.record(tours.book_a(), 3)
+    longest, a = longest_record(cases.largest()), ref.record(tours.book_a(), 3)
     places = {'W': 0, 'K': 4, 'k': 8, 'a word of the book': 12, 'a cost': 12 + 4 * 4172, 'a plan': 12 + 4 * 4172 + 8 * 64, 'the last byte': len(longest) - 1}
     yield 'the longest record', longest
+    yield 'the longest record of a book with stops', longest_record(cases.largest_with_stops())
     yield from (('%d bytes after the longest record' % n, longest + bytes(n)) for n in (1, 2, 70000))
     yield 'the longest record without its last byte', longest[:-1]
     yield from (('the longest record, %s changed' % what, longest[:at] + bytes([longest[at] ^ 1]) + longest[at + 1:]) for what, at in places.items())
@@ -124,7 +126,7 @@ def edges():
 def stored():
     """For each crate its input and output. If kbest or kbest_file read a word less it would accept the book, and if it counted one byte more it would say 1;
     if kbest_page read a byte less it would accept the record."""
-    inputs = {'kbest': longest_input() + bytes(5), 'kbest_file': longest_input() + bytes(5), 'kbest_page': longest_record() + bytes(1)}
+    inputs = {'kbest': longest_input() + bytes(5), 'kbest_file': longest_input() + bytes(5), 'kbest_page': longest_record(cases.largest()) + bytes(1)}
     with search.instead_of_enumeration():
         return {name: (data, PROGRAMS[name][0](data)) for name, data in inputs.items()}
 

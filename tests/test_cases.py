@@ -1,5 +1,6 @@
 #!/usr/bin/env python3
-"""The stored cases are those that cases.py makes, and every call has a case for each number that it can give. Run: python3 tests/test_cases.py"""
+"""The stored cases are those that cases.py makes, and every call has a case for each number that it can give, and is accepted with stops. Run:
+python3 tests/test_cases.py"""
 
 import os
 import sys
@@ -8,8 +9,10 @@ import unittest
 HERE = os.path.dirname(os.path.abspath(__file__))
 sys.path[:0] = [HERE]
 
+import books
 import cases
 import machine
+import reference as ref
 
 BOOK = range(14)    # 0, and the questions 1 to 13
 NUMBERS = {'check': {*BOOK}, 'least': {*BOOK}, 'value': {*BOOK, 17}, 'rank': {*BOOK, 14, 15, 16}, 'write': {*BOOK, 14, 18}, 'accept': {*BOOK, 14, 19, 20, 21}}
@@ -19,7 +22,8 @@ class Stored(unittest.TestCase):
     @classmethod
     def setUpClass(cls):
         cls.cases = cases.stored()
-        cls.transcripts = [line for case in cls.cases for line in machine.transcript(case)]
+        cls.of_case = [machine.transcript(case) for case in cls.cases]
+        cls.transcripts = [line for transcript in cls.of_case for line in transcript]
 
     def test_files(self):
         folder = os.path.join(HERE, '..', 'crates', 'cases')
@@ -34,6 +38,15 @@ class Stored(unittest.TestCase):
             if c.kind in NUMBERS:
                 found[c.kind].add(int(text.split()[1]))
         self.assertEqual(found, NUMBERS)
+
+    def test_stops(self):
+        """Each call is accepted in many cases of a book with stops, and in many of a book without."""
+        found = {(name, stops): 0 for name in NUMBERS for stops in (True, False)}
+        for case, transcript in zip(self.cases, self.of_case):
+            accepted = [words for words in machine.books_of(case) if ref.check(words) == 0]
+            for name in {c.kind for c, text in transcript if c.kind in NUMBERS and int(text.split()[1]) == 0} if accepted else ():
+                found[name, any(books.stopping(words) for words in accepted)] += 1
+        self.assertGreater(min(found.values()), 30, found)
 
 
 if __name__ == '__main__':

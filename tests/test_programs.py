@@ -62,7 +62,7 @@ class Same(unittest.TestCase):
         book = {*range(1, 15)}
         for draw, answer, numbers in ((kinds.page_input, ref.page, book), (kinds.record_input, ref.record_page, book | {19, 20, 21})):
             rng = random.Random('numbers')
-            found = {answer(draw(rng)) for _ in range(600)}
+            found = {answer(draw(rng)) for _ in range(1200)}
             self.assertEqual({int(out.split()[1]) for out in found if out.startswith(REFUSED)}, numbers)
             self.assertTrue(any(not out.startswith(REFUSED) for out in found))
 

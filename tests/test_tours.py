@@ -1,5 +1,5 @@
 #!/usr/bin/env python3
-"""reference.py gives what the table of document 01 says. Run: python3 tests/test_tours.py"""
+"""reference.py gives what the table of document 01 says, and for tour 9 document 02. Run: python3 tests/test_tours.py"""
 
 import os
 import sys
@@ -26,11 +26,16 @@ def written(words, k, room):
     return no or (length == room and lent == list(ref.record(words, k)) and 'written')
 
 
+def cost(answer):
+    no, found = answer
+    return no or 'cost %d' % found
+
+
 ANSWERS = {
     'page': lambda words, k: ref.page(machine.little(k, 4) + machine.book_bytes(words)).decode(),
     'rank': listed,
-    'value': lambda words, plan: ref.value(words, plan)[0],
-    'least': lambda words: ref.least(words)[0],
+    'value': lambda words, plan: cost(ref.value(words, plan)),
+    'least': lambda words: cost(ref.least(words)),
     'check': lambda words: ref.check(words) or 'accepted',
     'write': written,
     'accept': lambda record: ref.accept(record)[0] or 'accepted',
@@ -42,6 +47,12 @@ class Tours(unittest.TestCase):
         for tour, call, arguments, result in tours.TABLE:
             with self.subTest(tour=tour, call=call):
                 self.assertEqual(ANSWERS[call](*arguments), result)
+
+    def test_days_of_9(self):
+        """As the comment in tours.py has them, as (weight, cost)."""
+        book = ref.Book(tours.book_a(scale=3))
+        found = {plan: sorted(ref.days(book, plan)) for plan in ref.plans(book)}
+        self.assertEqual(found, {(0, 0, 0): [(1, 10), (1, 14), (1, 19)], (1, 0, 255): [(1, 12), (2, 16)]})
 
     def test_every_tour(self):
         self.assertEqual({tour for tour, *_ in tours.TABLE}, set(range(1, 13)))

@@ -1,0 +1,183 @@
+#!/usr/bin/env python3
+"""books.py draws what its shapes say, the days of its plans weigh D^H together, and random cases and inputs meet books with stops often. Run:
+python3 tests/test_books.py"""
+
+import os
+import random
+import sys
+import unittest
+
+sys.path[:0] = [os.path.dirname(os.path.abspath(__file__))]
+
+import books
+import kinds
+import machine
+import reference as ref
+
+
+def drawn(shape, count):
+    """Books of a shape; of those that stand for the largest sizes few."""
+    rng = random.Random('books ' + shape.__name__)
+    return [shape(rng) for _ in range(count)]
+
+
+def sums(words):
+    """What the weights of each choice before stage H add to."""
+    book = ref.Book(words)
+    return [book.scale - ref.missing_part(book, post, c) for post, c in books.deciding(book)]
+
+
+def costs(words):
+    return [cost for here in ref.Book(words).choices for cost, _ in here]
+
+
+def reached_stops(words):
+    """The choices after which a day of some plan may stop."""
+    found = books.reachable(ref.Book(words))
+    return [(post, c) for post, c in books.stopping(words) if post in found]
+
+
+class Shapes(unittest.TestCase):
+    LARGE = [books.many, books.large, books.full, books.vast]
+    LARGE_STOPS = [books.stops_many, books.stops_large, books.stops_full, books.stops_vast]
+    # What every book of a shape has.
+    HAVE = {
+        books.stops_each_stage: lambda words: {ref.Book(words).stage[post] for post, _ in books.stopping(words)} == {*range(words[1])},
+        books.stops_everywhere: lambda words: all(total < words[0] for total in sums(words)),
+        books.sure_stops: lambda words: all(total in (0, words[0]) for total in sums(words)),
+        books.post_0_stops: lambda words: any(not lines for _, lines in ref.Book(words).choices[0]),
+        books.stops_unreached: lambda words: not reached_stops(words),
+        books.stops_barely: lambda words: all(total in (min(1, words[0] - 1), words[0] - 1, words[0]) for total in sums(words)),
+        books.stops_and_gains: lambda words: max(costs(words)) < 0,
+        books.stops_deep: lambda words: words[1] == 8,
+        books.stops_edge: lambda words: max(map(abs, costs(words))) - books.most_cost(words[0], words[1]) in (0, 1),
+    }
+
+    def every(self, shape, count, have):
+        self.assertTrue(all(have(words) for words in drawn(shape, count)), shape.__name__)
+
+    def test_without_stops(self):
+        for shape in books.WITHOUT_STOPS + self.LARGE:
+            self.every(shape, 5 if shape in self.LARGE else 100, lambda words: not books.stopping(words))
+
+    def test_with_stops(self):
+        for shape in books.WITH_STOPS + self.LARGE_STOPS:
+            self.every(shape, 5 if shape in self.LARGE_STOPS else 100, books.stopping)
+
+    def test_what_each_has(self):
+        for shape, have in self.HAVE.items():
+            self.every(shape, 100, have)
+
+    def test_accepted(self):
+        """All but a cost beyond question 13's edge is allowed."""
+        for shape in books.SHAPES:
+            numbers = [ref.check(words) for words in drawn(shape, 100)]
+            if shape in (books.edge, books.stops_edge):
+                self.assertEqual({*numbers}, {0, 13})
+                self.assertGreater(numbers.count(0), 40)
+            else:
+                self.assertEqual({*numbers}, {0}, shape.__name__)
+
+    def test_ties(self):
+        """In many books two plans tie, one of which stops where the other goes on."""
+        found = 0
+        for words in drawn(books.stops_and_ties, 100):
+            if books.feasible(words, 200):
+                book = ref.Book(words)
+                stopped = [(cost, {post for post, c in enumerate(plan) if (post, c) in books.stopping(words)}) for cost, plan in ref.in_order(tuple(words))]
+                found += any(a == b and s != t for (a, s), (b, t) in zip(stopped, stopped[1:]))
+        self.assertGreater(found, 30)
+
+    def test_sums(self):
+        """Sums of 0, 1, D - 1 and in between."""
+        found = {'0': 0, '1': 0, 'D - 1': 0, 'between': 0}
+        for words in drawn(books.stops, 200):
+            if words[0] > 3:
+                for total in sums(words):
+                    name = {0: '0', 1: '1', words[0] - 1: 'D - 1', words[0]: None}.get(total, 'between')
+                    if name:
+                        found[name] += 1
+        self.assertGreater(min(found.values()), 50, found)
+
+
+class Days(unittest.TestCase):
+    def plans(self, shapes, count):
+        """(book, plan, its days) of some plans of random books that are accepted."""
+        rng = random.Random('days')
+        for _ in range(count):
+            words = books.draw(rng, rng.choice(shapes))
+            if not ref.check(words):
+                book = ref.Book(words)
+                for plan in rng.sample([*ref.plans(book)], min(4, books.count_plans(words, 4))):
+                    yield book, plan, [*ref.days(book, plan)]
+
+    def test_weights(self):
+        """The weights of a plan's days add to D^H, and each is at least 1."""
+        plans = stopped = 0
+        for book, plan, days in self.plans(books.SHAPES, 400):
+            self.assertEqual(sum(weight for weight, _ in days), book.scale ** book.stages)
+            self.assertGreaterEqual(min(weight for weight, _ in days), 1)
+            plans += 1
+            stopped += any(ref.missing_part(book, post, c) for post, c in books.deciding(book) if plan[post] == c)
+        self.assertGreater(stopped, plans // 3)
+        self.assertGreater(plans - stopped, plans // 3)
+
+    def test_costs_and_stages(self):
+        """With every cost 1 a day's cost is the number of its choices, so that it says where the day ends: at a choice that stops, or at stage H."""
+        ends = set()
+        for book, plan, _ in self.plans([books.stops, books.stops_each_stage, books.stops_deep], 200):
+            book.choices = [[(1, lines) for _, lines in here] for here in book.choices]
+            where = {book.stage[post] + 1 for post, c in books.deciding(book) if plan[post] == c and ref.missing_part(book, post, c) > 0}
+            found = {cost for _, cost in ref.days(book, plan)}
+            self.assertEqual(found - {book.stages + 1}, where)
+            ends |= {(book.stages, cost) for cost in found}
+        self.assertEqual({cost for stages, cost in ends if stages == 8}, {*range(1, 10)})
+
+    def test_most(self):
+        """days_at_most is the number of days of the plan that has the most."""
+        rng = random.Random('most')
+        for _ in range(200):
+            words = books.draw(rng, rng.choice(books.SHAPES))
+            if not ref.check(words):
+                book = ref.Book(words)
+                self.assertEqual(books.days_at_most(words), max(sum(1 for _ in ref.days(book, plan)) for plan in ref.plans(book)))
+
+
+class Faults(unittest.TestCase):
+    def test_numbers(self):
+        """Faults for the questions 9 and 12 are faults, but for some weights that only stop."""
+        for n in (9, 12):
+            for shapes in (kinds.FAULTY, kinds.FAULTY_STOPS):
+                rng, numbers = random.Random('faults'), []
+                for _ in range(300):
+                    numbers.append(ref.check(kinds.faulty(rng, [books.BREAKS[n - 1]], shapes)))
+                self.assertGreater(numbers.count(n), 200)
+                if n == 12:
+                    self.assertGreater(numbers.count(0), 10)
+
+
+class Met(unittest.TestCase):
+    """How many of the books that are accepted have a stop that some plan reaches: at least a third, and no more than two thirds."""
+
+    def share(self, found):
+        stopped = sum(1 for words in found if reached_stops(words))
+        self.assertGreater(len(found), 100)
+        self.assertGreater(stopped, len(found) / 3)
+        self.assertLess(stopped, len(found) * 2 / 3)
+
+    def test_cases(self):
+        self.share([words for n in range(180) for words in machine.books_of(kinds.fresh('met', n)) if not ref.check(words)])
+
+    def test_inputs(self):
+        rng = random.Random('met')
+        found = [ref.asked(kinds.page_input(rng)) for _ in range(300)]
+        self.share([words for no, _, words in found if no == 0])
+
+    def test_records(self):
+        rng = random.Random('met')
+        found = [kinds.record_input(rng) for _ in range(400)]
+        self.share([ref.words_of(data[12:12 + 4 * int.from_bytes(data[:4], 'little')]) for data in found if ref.accept(data)[0] == 0])
+
+
+if __name__ == '__main__':
+    unittest.main()
