@@ -204,7 +204,7 @@ def vast(rng):
 WITHOUT_STOPS = [small, deep, wide, ties, few, unreached, crossing, edge]
 
 
-# ---- shapes with stops: the weights of a choice before stage H add to less than D. Each but post_0_stops is a book of a shape above with lower weights.
+# ---- shapes with stops: the weights of a choice before stage H add to less than D
 
 def deciding(book):
     """The choices before stage H, each as (post, choice)."""
@@ -248,7 +248,7 @@ def lower(rng, lines, total):
 
 def lowered(rng, words, where, total=below):
     """The book with stops at the choices `where`."""
-    book = ref.Book(words)
+    book, where = ref.Book(words), {*where}
     rows = [[(cost, lower(rng, lines, total(rng, book.scale)) if (post, c) in where else lines) for c, (cost, lines) in enumerate(here)]
             for post, here in enumerate(book.choices)]
     return build(book.scale, book.sizes, rows)

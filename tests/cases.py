@@ -348,7 +348,8 @@ def place_cases():
         yield 'a sure stop at post 0 as choice %d' % i, thorough(books.build(3, [1, 2, 2], [go_on[:i] + [(9, [])] + go_on[i:]] + later), 3)
     yield 'a sure stop at every stage, or on', thorough(row_of_posts(2, [(3, 2), (4, 0)], [(-2, 1), (0, 0)], [(5, 0), (4, 2)]), 64)
     yield 'every choice stops surely', thorough(row_of_posts(2, [(3, 0), (4, 0)], [(-2, 0)], [(5, 0)]), 2)
-    yield 'only posts that no plan reaches stop', thorough(books.build(2, [1, 2, 1], [[(1, [(0, 2)])], [(2, [(0, 2)])], [(3, [(0, 1)]), (4, [])], [(5, [])]]), 2)
+    far = [[(1, [(0, 2)])], [(2, [(0, 2)])], [(3, [(0, 1)]), (4, [])], [(5, [])]]
+    yield 'only a post that no plan reaches stops', thorough(books.build(2, [1, 2, 1], far), 2)
 
 
 def stop_limits():

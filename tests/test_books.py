@@ -16,7 +16,6 @@ import reference as ref
 
 
 def drawn(shape, count):
-    """Books of a shape; of those that stand for the largest sizes few."""
     rng = random.Random('books ' + shape.__name__)
     return [shape(rng) for _ in range(count)]
 
@@ -83,8 +82,8 @@ class Shapes(unittest.TestCase):
         found = 0
         for words in drawn(books.stops_and_ties, 100):
             if books.feasible(words, 200):
-                book = ref.Book(words)
-                stopped = [(cost, {post for post, c in enumerate(plan) if (post, c) in books.stopping(words)}) for cost, plan in ref.in_order(tuple(words))]
+                where = {*books.stopping(words)}
+                stopped = [(cost, where.intersection(enumerate(plan))) for cost, plan in ref.in_order(tuple(words))]
                 found += any(a == b and s != t for (a, s), (b, t) in zip(stopped, stopped[1:]))
         self.assertGreater(found, 30)
 
@@ -161,12 +160,12 @@ class Met(unittest.TestCase):
 
     def share(self, found):
         stopped = sum(1 for words in found if reached_stops(words))
-        self.assertGreater(len(found), 100)
+        self.assertGreater(len(found), 60)
         self.assertGreater(stopped, len(found) / 3)
         self.assertLess(stopped, len(found) * 2 / 3)
 
     def test_cases(self):
-        self.share([words for n in range(180) for words in machine.books_of(kinds.fresh('met', n)) if not ref.check(words)])
+        self.share([words for n in range(120) for words in machine.books_of(kinds.fresh('met', n)) if not ref.check(words)])
 
     def test_inputs(self):
         rng = random.Random('met')
