@@ -131,6 +131,7 @@ def carried(words, most, k, tail=b''):
     yield page(4 + 4 * len(words))
 
 
+# The books that faults are put into.
 FAULTY = [books.small, books.few, books.wide, books.edge]
 FAULTY_STOPS = [books.stops, books.stops_everywhere, books.sure_stops, books.stops_barely, books.stops_wide, books.stops_edge]
 

@@ -11,7 +11,8 @@ import reference as ref
 
 
 def numbers(book, row):
-    """For each post its cost to the end over D^(H - n): by the row's choice where the row has come to the post, by its best choice after."""
+    """For each post its cost to the end over D^(H - n): by the row's choice where the row has come to the post, by its best choice after. A choice's cost counts
+    whole, whether the day goes on or stops there; each line adds the next post's cost by its weight, and the missing part adds none."""
     found = [0] * book.posts
     for post in reversed(range(book.posts)):
         rest = book.scale ** (book.stages - book.stage[post])

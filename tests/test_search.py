@@ -23,14 +23,14 @@ class Same(unittest.TestCase):
 
     def test_lists(self):
         found = {True: 0, False: 0}
-        for rng, words in self.books(600):
+        for rng, words in self.books(500):
             for k in (1, rng.randint(1, 64), 64):
                 self.assertEqual(search.first(words, k), ref.ranking(words, k))
             found[bool(books.stopping(words))] += 1
-        self.assertGreater(min(found.values()), 150, found)
+        self.assertGreater(min(found.values()), 120, found)
 
     def test_plans_and_costs(self):
-        for rng, words in self.books(300):
+        for rng, words in self.books(240):
             book = ref.Book(words)
             for cost, plan in rng.sample(ref.in_order(tuple(words)), min(5, len(ref.in_order(tuple(words))))):
                 self.assertEqual(search.plan_cost(book, plan), cost)
@@ -39,7 +39,7 @@ class Same(unittest.TestCase):
 
     def test_order(self):
         """A plan is listed exactly when fewer than K plans come before it, as plan j if j of them do."""
-        for rng, words in self.books(240):
+        for rng, words in self.books(160):
             book, listed = ref.Book(words), ref.in_order(tuple(words))
             if len(listed) <= 60:
                 for j, (_, plan) in enumerate(listed):
