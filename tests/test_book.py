@@ -36,17 +36,40 @@ choice 0 cost 9
 '''
 
 
+def fewer(rng, nexts):
+    """Some of the next posts, or none, each with its weight or a lower one."""
+    kept = rng.choice([nexts, nexts[:rng.randint(0, len(nexts))], []])
+    return [(step, rng.choice([weight, rng.randint(1, weight)])) for step, weight in kept]
+
+
+def with_stops(rng, words):
+    """The same book, with a part missing at many choices before the last stage."""
+    found = ref.Book(words)
+    choices = [[(cost, fewer(rng, nexts) if stage < found.stages else nexts) for cost, nexts in here] for stage, here in zip(found.stage, found.choices)]
+    return books.build(found.scale, found.sizes, choices)
+
+
+def stop_weights(words):
+    """The missing part of each choice that a line can say it of, in order."""
+    found = ref.Book(words)
+    parts = [found.scale - sum(weight for _, weight in nexts)
+             for stage, here in zip(found.stage, found.choices) if stage < found.stages for _, nexts in here]
+    return [part for part in parts if 1 <= part < 2 ** 31]
+
+
 def drawn(count):
-    """Good books, books with faults, and words that are no book."""
+    """Good books, books with stops, books with faults, and words that are no book."""
     rng = random.Random('text')
     for _ in range(count):
         shape = rng.choice(books.SHAPES + [books.many])
         words = shape(rng)
         yield words
+        yield with_stops(rng, words)
         if not ref.check(words):
-            yield books.broken(rng, words, rng.sample(books.BREAKS, rng.randint(1, 3)))
+            yield books.broken(rng, rng.choice([words, with_stops(rng, words)]), rng.sample(books.BREAKS, rng.randint(1, 3)))
         yield books.wild(rng)
     yield books.large(rng)
+    yield with_stops(rng, books.large(rng))
 
 
 class RoundTrips(unittest.TestCase):
@@ -94,7 +117,145 @@ class RoundTrips(unittest.TestCase):
             self.assertIn('does not fit 32 bits', str(caught.exception))
 
 
+REFUSED_PARCEL = [4, 2, 8, 1, 1, 1, 2, 2, 1] + [1, 0, 1, 0, 1, 0, 0, 0] + [10, 3, 14, 4, 6, 3, 8, 5]
+NO_STOP = 'scale 4\nstage 0\npost 0\nchoice 0 cost 1\nnext 0 weight 1\nnext 1 weight 2\nstage 1\npost 1\nchoice 0 cost 1\npost 2\nchoice 0 cost 1'
+
+
+def with_line(text, after, line):
+    """The text with one more line after so many."""
+    lines = text.split('\n')
+    return '\n'.join(lines[:after] + [line] + lines[after:]).encode()
+
+
+class Stops(unittest.TestCase):
+    def drawn(self):
+        rng = random.Random('stops')
+        for _ in range(150):
+            yield rng, with_stops(rng, rng.choice(books.SHAPES)(rng))
+
+    def stops_of(self, text):
+        """(line from 1, weight) of each line stop."""
+        rows = [(n, line.split()) for n, line in enumerate(text.split('\n'), 1)]
+        return [(n, int(parts[2])) for n, parts in rows if parts[:1] == ['stop']]
+
+    def refused(self, data, reason):
+        with self.assertRaises(book.Refused, msg=data) as caught:
+            book.words_of_text(data)
+        self.assertEqual(str(caught.exception), reason)
+
+    def without(self, text):
+        return '\n'.join(line for line in text.split('\n') if 'stop' not in line)
+
+    def test_refused_parcel(self):
+        with open(os.path.join(HERE, '..', 'examples', 'refused_parcel.txt'), 'rb') as f:
+            self.assertEqual(book.words_of_text(f.read()), REFUSED_PARCEL)
+        self.assertEqual(book.text_of_words(REFUSED_PARCEL), '''scale 4
+
+stage 0
+  post 0
+    choice 0 cost 10
+      next 0 weight 3    # post 1
+      stop weight 1
+    choice 1 cost 14
+      next 0 weight 4    # post 1
+
+stage 1
+  post 1
+    choice 0 cost 6
+      next 0 weight 3    # post 2
+      stop weight 1
+    choice 1 cost 8
+      stop weight 4
+
+stage 2
+  post 2
+    choice 0 cost 5
+''')
+
+    def test_written_where_a_part_is_missing(self):
+        """A line for each choice before the last stage that leaves a part, below its next posts; and the words are the same without it."""
+        total = 0
+        for _, words in self.drawn():
+            text = book.text_of_words(words)
+            stops = self.stops_of(text)
+            self.assertEqual([weight for _, weight in stops], stop_weights(words))
+            lines = text.split('\n')
+            for n, _ in stops:
+                self.assertNotIn('next', lines[n])    # the line after it
+            self.assertEqual(book.words_of_text(text.encode()), words)
+            self.assertEqual(book.words_of_text(self.without(text).encode()), words)
+            total += len(stops)
+        self.assertGreater(total, 500)
+
+    def test_none_where_weights_add_to_the_scale(self):
+        for words in (tours.book_a(), tours.book_c(), tours.book_of_tour_10(44)):
+            self.assertNotIn('stop', book.text_of_words(words))
+
+    def test_number_due(self):
+        """Another number is refused at its line, and so is a second line."""
+        for rng, words in self.drawn():
+            text = book.text_of_words(words)
+            if not stop_weights(words):
+                continue
+            n, weight = rng.choice(self.stops_of(text))
+            other = rng.choice([weight + 1, weight - 1, 0, -weight, 2 ** 31 - 1])
+            lines = text.split('\n')
+            lines[n - 1] = 'stop weight %d' % other
+            self.refused('\n'.join(lines).encode(), 'line %d: stop weight %d is written where stop weight %d is due' % (n, other, weight))
+            self.refused(with_line(text, n, 'stop weight %d' % weight), 'line %d: a second line "stop" in one choice' % (n + 1))
+
+    def test_anywhere_in_its_choice(self):
+        words = book.words_of_text(NO_STOP.encode())
+        for after in (4, 5, 6):
+            self.assertEqual(book.words_of_text(with_line(NO_STOP, after, 'stop weight 1')), words)
+            self.refused(with_line(NO_STOP, after, 'stop weight 2'), 'line %d: stop weight 2 is written where stop weight 1 is due' % (after + 1))
+
+    def test_scale_after_it(self):
+        """It is judged when the text has ended, and its own line is named."""
+        text = with_line(NO_STOP, 6, 'stop weight 1').decode().split('\n')[1:]
+        self.assertEqual(book.words_of_text('\n'.join(text + ['scale 4']).encode()), book.words_of_text(NO_STOP.encode()))
+        self.refused('\n'.join(text + ['scale 5']).encode(), 'line 6: stop weight 1 is written where stop weight 2 is due')
+        self.refused('\n'.join(text + ['scale 3']).encode(), 'line 6: a line "stop" where no part is missing: the weights add to 3, and the scale is 3')
+        self.refused('\n'.join(text).encode(), 'line 11: the text ends without a line "scale"')
+
+    def test_first_fault_is_named(self):
+        text = with_line(with_line(NO_STOP, 11, 'stop weight 4').decode(), 6, 'stop weight 9')
+        self.refused(text, 'line 7: stop weight 9 is written where stop weight 1 is due')
+        self.refused(with_line(NO_STOP, 11, 'stop weight 4'), 'line 12: a line "stop" at the last stage')
+
+    def test_weights_that_no_book_has(self):
+        """Nothing is judged but the number: any weights and any scale read back, with a line wherever the missing part is a number from 1 on that fits."""
+        seen = set()
+        for rng, words in self.drawn():
+            at = books.Places(words)
+            for _ in range(rng.randint(1, 4)):
+                words[rng.choice([0] + [at.right + i for i in range(words[2])])] = rng.choice([0, -1, 1, -7, 2 ** 31 - 1, -2 ** 31, rng.randint(-9, 9)])
+            text = book.text_of_words(words)
+            self.assertEqual([weight for _, weight in self.stops_of(text)], stop_weights(words))
+            self.assertEqual(book.words_of_text(text.encode()), words)
+            seen.update(stop_weights(words))
+        self.assertTrue(any(part > 2 ** 30 for part in seen))
+
+    def test_more_than_32_bits(self):
+        """Weights below 0 can leave more than a number of the text can say. There no line stands, and none can be written."""
+        for scale, part in ((2 ** 31 - 2, 2 ** 31 - 1), (2 ** 31 - 1, 2 ** 31)):
+            words = books.build(scale, [1, 1], [[(0, [(0, -1)])], [(0, [])]])
+            text = book.text_of_words(words)
+            self.assertEqual(self.stops_of(text), [(7, part)] if part < 2 ** 31 else [])
+            self.assertEqual(book.words_of_text(text.encode()), words)
+        self.refused(with_line(text, 6, 'stop weight 2147483647'), 'line 7: stop weight 2147483647 is written where stop weight 2147483648 is due')
+        self.refused(with_line(text, 6, 'stop weight 2147483648'), 'line 7: 2147483648 does not fit 32 bits')
+
+
 class Records(unittest.TestCase):
+    def test_stops(self):
+        """The book of a record is written with its stops."""
+        record = ref.record(REFUSED_PARCEL, 4)
+        text = book.record_to_text(record)
+        self.assertTrue(text.startswith('# a record: a book of 25 words, K = 4, k = 4\n\n' + book.text_of_words(REFUSED_PARCEL)))
+        self.assertIn('\n      stop weight 4\n', text)
+        self.assertEqual(book.words_of_text(text.encode()), REFUSED_PARCEL)
+
     def test_book_a(self):
         text = book.record_to_text(ref.record(tours.book_a(), 3))
         self.assertTrue(text.startswith('# a record: a book of 22 words, K = 3, k = 2\n\nscale 2\n'))
@@ -115,6 +276,7 @@ class Records(unittest.TestCase):
             words = books.draw(rng, rng.choice(books.SHAPES))
             if ref.check(words):
                 continue
+            words = rng.choice([words, with_stops(rng, words)])
             k = rng.randint(1, 64)
             text = book.record_to_text(ref.record(words, k))
             self.assertEqual(book.words_of_text(text.encode()), words)
@@ -183,6 +345,22 @@ MESSAGES = [
     ('scale 2\nstage 0\nnext 0 weight 2', 'line 3: a line "next" before the first line "post"'),
     ('scale 2\nnext 0 weight 2', 'line 2: a line "next" before the first line "stage"'),
     ('scale 2\nstage 0\npost 0\nchoice 0 cost 1\nnext 0 2', 'line 5: expected "next NUMBER weight NUMBER"'),
+    ('scale 2\nstop weight 2', 'line 2: a line "stop" before the first line "stage"'),
+    ('scale 2\nstage 0\nstop weight 2', 'line 3: a line "stop" before the first line "post"'),
+    ('scale 2\nstage 0\npost 0\nstop weight 2', 'line 4: a line "stop" before the first line "choice"'),
+    ('scale 2\nstage 0\npost 0\nchoice 0 cost 1\npost 1\nstop weight 2\nstage 1', 'line 6: a line "stop" before the first line "choice"'),
+    ('scale 2\nstage 0\npost 0\nchoice 0 cost 1\nstop 2', 'line 5: expected "stop weight NUMBER"'),
+    ('scale 2\nstage 0\npost 0\nchoice 0 cost 1\nstop', 'line 5: expected "stop weight NUMBER"'),
+    ('scale 2\nstage 0\npost 0\nchoice 0 cost 1\nstop weight two', 'line 5: "two" is not a whole number'),
+    ('scale 2\nstage 0\npost 0\nchoice 0 cost 1\nstop weight 2\nstop weight 2', 'line 6: a second line "stop" in one choice'),
+    ('scale 2\nstage 0\npost 0\nchoice 0 cost 1\nstop weight 2', 'line 5: a line "stop" at the last stage'),
+    ('scale 2\nstage 0\npost 0\nchoice 0 cost 1\nstop weight 1\nstage 1', 'line 5: stop weight 1 is written where stop weight 2 is due'),
+    ('scale 2\nstage 0\npost 0\nchoice 0 cost 1\nstop weight 0\nnext 0 weight 2\nstage 1',
+     'line 5: a line "stop" where no part is missing: the weights add to 2, and the scale is 2'),
+    ('scale 2\nstage 0\npost 0\nchoice 0 cost 1\nnext 0 weight 3\nstop weight -1\nstage 1',
+     'line 6: a line "stop" where no part is missing: the weights add to 3, and the scale is 2'),
+    ('stage 0\npost 0\nchoice 0 cost 1\nstop weight 9\nstage 1', 'line 5: the text ends without a line "scale"'),
+    ('words 1\nstop weight 2', 'line 2: lines "words" stand in a book alone'),
     ('scale 2\nwords 1', 'line 2: lines "words" stand in a book alone'),
     ('words 1\nscale 2', 'line 2: lines "words" stand in a book alone'),
     ('words\nstage 0', 'line 2: lines "words" stand in a book alone'),

@@ -20,6 +20,7 @@ FORMS = {
     'post': 'post NUMBER',
     'choice': 'choice NUMBER cost NUMBER',
     'next': 'next NUMBER weight NUMBER',
+    'stop': 'stop weight NUMBER',
     'words': 'words NUMBER ..',
 }
 PLACES = 12
@@ -32,6 +33,11 @@ class Refused(Exception):
 
 def refuse(line, reason):
     raise Refused('line %d: %s' % (line, reason))
+
+
+def missing(scale, nexts):
+    """The part of the scale that the weights of a choice leave. Where it is 1 or more, the tour may stop after that choice; no word has it."""
+    return scale - sum(weight for _, weight in nexts)
 
 
 # ---- text to words
@@ -62,10 +68,11 @@ def fields(line, parts):
 
 
 class Reader:
-    """What the lines say so far: the scale, and stages of posts of choices, each choice [cost, [(next post, weight)]]. Or plain words."""
+    """What the lines say so far: the scale, and stages of posts of choices, each choice [cost, [(next post, weight)]]. Or plain words.
+    And the stops, each (line, stage, choice, weight): only the whole text can say whether the weight is the one due."""
 
     def __init__(self):
-        self.scale, self.stages, self.posts, self.words = None, [], 0, None
+        self.scale, self.stages, self.posts, self.words, self.stops = None, [], 0, None, []
 
     def due(self, line, name, given, count):
         if given != count:
@@ -112,8 +119,23 @@ class Reader:
     def take_next(self, line, step, weight):
         self.inner(line, 'next', 'choice', self.post(line, 'next'))[1].append((step, weight))
 
+    def take_stop(self, line, weight):
+        choice = self.inner(line, 'stop', 'choice', self.post(line, 'stop'))
+        if self.stops and self.stops[-1][2] is choice:
+            refuse(line, 'a second line "stop" in one choice')
+        self.stops.append((line, len(self.stages) - 1, choice, weight))
+
     def take_words(self, line, values):
         self.words = (self.words or []) + values
+
+    def check_stops(self):
+        for line, stage, (_, nexts), weight in self.stops:
+            if stage == len(self.stages) - 1:
+                refuse(line, 'a line "stop" at the last stage')
+            part = missing(self.scale, nexts)
+            if part < 1:
+                refuse(line, 'a line "stop" where no part is missing: the weights add to %d, and the scale is %d' % (self.scale - part, self.scale))
+            self.due(line, 'stop weight', weight, part)
 
     def book(self, line):
         """The words, once the text has ended before this line."""
@@ -123,6 +145,7 @@ class Reader:
             refuse(line, 'the text ends without a line "scale"')
         if not self.stages:
             refuse(line, 'the text ends without a line "stage"')
+        self.check_stops()
         posts = [post for stage in self.stages for post in stage]
         left, right = [], []
         for post in posts:
@@ -198,6 +221,12 @@ def next_line(step, weight, first, later):
     return '      next %d weight %d' % (step, weight) + note
 
 
+def stop_lines(scale, nexts, later):
+    """A line wherever one can stand: before the last stage, where a part is missing. Weights below 0 can leave more than 32 bits, which no text has."""
+    part = missing(scale, nexts)
+    return ['      stop weight %d' % part] if later and 1 <= part <= HIGH else []
+
+
 def text_of_words(words):
     apart = taken_apart(words)
     if apart is None:
@@ -212,6 +241,7 @@ def text_of_words(words):
             for c, (cost, nexts) in enumerate(post):
                 out.append('    choice %d cost %d' % (c, cost))
                 out += [next_line(step, weight, first + len(stage), stages[n + 1:]) for step, weight in nexts]
+                out += stop_lines(scale, nexts, stages[n + 1:])
         first += len(stage)
     return '\n'.join(out) + '\n'
 
