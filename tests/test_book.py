@@ -405,11 +405,38 @@ class Document(unittest.TestCase):
     def test_text_form(self):
         blocks = re.findall(r'```\n(.*?)```', self.text, re.S)
         self.assertEqual(book.words_of_text(blocks[0].encode()), tours.book_a())
-        self.assertTrue(book.record_to_text(ref.record(tours.book_a(), 3)).endswith(blocks[1]))
+        self.assertIn(blocks[1], book.text_of_words(REFUSED_PARCEL))
+        self.assertTrue(book.record_to_text(ref.record(tours.book_a(), 3)).endswith(blocks[2]))
 
-    def test_page(self):
-        page = ref.page(book.to_binary(BOOK_A.encode(), 3)).decode()
-        self.assertIn(''.join('    ' + line + '\n' for line in page.splitlines()), self.text)
+    def test_pages(self):
+        pages = [re.sub('^    ', '', part, flags=re.M) for part in re.findall(r'(?<=\n\n)(?:    .*\n)+(?=\n)', self.text)]
+        for words, k in ((tours.book_a(), 3), (REFUSED_PARCEL, 4)):
+            self.assertIn(ref.page(k.to_bytes(4, 'little') + book.bytes_of_words(words)).decode(), pages)
+
+    def test_words_of_refused_parcel(self):
+        row = re.search(r'`examples/refused_parcel.txt` has the words (.*?)\.', self.text, re.S)[1]
+        self.assertEqual([int(n) for n in re.findall(r'-?\d+', row)], REFUSED_PARCEL)
+
+    def figure(self, cell):
+        """The number at the end of a cell, which the products and sums before it must give."""
+        *before, last = cell.split(' = ')
+        for sum_ in before:
+            self.assertEqual(eval(sum_.replace('×', '*')), int(last))
+        return int(last)
+
+    def test_days_of_refused_parcel(self):
+        """Each table of days: all days of its plan, by weight and cost, and their sums."""
+        found = re.findall(r'### The plan ([\d ]+)\n(.*?)(?=\n##)', self.text, re.S)
+        self.assertEqual([plan for plan, _ in found], ['0 0 0', '0 1 255'])
+        for plan, part in found:
+            plan = tuple(int(c) for c in plan.split())
+            *rows, total = re.findall(r'^\| (\w+) \| ([^|]*)\| ([^|]*) \| ([^|]*)\| (\d+) \|$', part, re.M)
+            days = [(self.figure(weight), self.figure(cost)) for _, _, weight, cost, _ in rows]
+            self.assertEqual([weight * cost for weight, cost in days], [int(row[4]) for row in rows])
+            self.assertEqual(sorted(days), sorted(ref.days(ref.Book(REFUSED_PARCEL), plan)))
+            self.assertEqual((total[2], sum(weight for weight, _ in days)), ('16 = D^H', 16))
+            self.assertEqual(int(total[4]), sum(weight * cost for weight, cost in days))
+            self.assertEqual(ref.value(REFUSED_PARCEL, plan), (0, int(total[4])))
 
     def test_book_c(self):
         row = re.search(r'Book C has the words (.*?)\. Its', self.text, re.S)[1]
