@@ -61,9 +61,12 @@ impl<'a> Book<'a> {
             for _ in 0..size {
                 for _ in 0..self.counts[post] {
                     let Some(&r) = self.left.get(line) else { return 9 };
-                    let allowed = if stage == self.h { r == 0 } else { (1..=16).contains(&r) };
+                    let most = if stage == self.h { 0 } else { 16 };
+                    if !(0..=most).contains(&r) {
+                        return 9;
+                    }
                     let end = line + 1 + r as usize;
-                    if !allowed || end > self.left.len() {
+                    if end > self.left.len() {
                         return 9;
                     }
                     let cost = self.right[line];
@@ -96,9 +99,6 @@ impl<'a> Book<'a> {
 
     /// 11 and 12 of one choice.
     fn lines_number(&self, from: usize, to: usize, next_size: i32) -> u32 {
-        if from == to {
-            return 0;
-        }
         let (mut before, mut sum, mut weights_allowed) = (-1, 0, true);
         for (&next, &weight) in self.left[from..to].iter().zip(&self.right[from..to]) {
             if next <= before || next >= next_size {
@@ -108,7 +108,7 @@ impl<'a> Book<'a> {
             weights_allowed &= weight >= 1 && weight <= self.d as i32;
             sum += weight as i64;
         }
-        if weights_allowed && sum == self.d as i64 {
+        if weights_allowed && sum <= self.d as i64 {
             0
         } else {
             12

@@ -23,13 +23,15 @@ impl Random {
     }
 }
 
-/// What a book of random costs and weights looks like. `transitions(i)` is how many next posts the i-th choice has.
+/// What a book of random costs and weights looks like. `transitions(i)` is how many next posts the i-th choice has; one that may stop can have fewer. Of 100
+/// choices before the last stage, `stops` may; where that is 0 nothing is drawn for it, so that a book is the same whether or not others have stops.
 struct Shape<'a> {
     scale: i32,
     sizes: &'a [i32],
     choices: i32,
     costs: (i32, i32),
     transitions: &'a dyn Fn(usize) -> i32,
+    stops: i32,
 }
 
 fn random_book(rng: &mut Random, shape: &Shape) -> Vec<i32> {
@@ -41,13 +43,13 @@ fn random_book(rng: &mut Random, shape: &Shape) -> Vec<i32> {
             let count = if stage == last { 1 } else { shape.choices };
             counts.push(count);
             for _ in 0..count {
-                let r = if stage == last { 0 } else { (shape.transitions)(made).min(shape.sizes[stage + 1]).min(shape.scale) };
+                let (r, sum) = if stage == last { (0, 0) } else { lines_of(rng, shape, (shape.transitions)(made).min(shape.sizes[stage + 1])) };
                 made += 1;
                 left.push(r);
                 right.push(rng.from(shape.costs.0, shape.costs.1));
                 if r > 0 {
                     left.extend(some_of(rng, shape.sizes[stage + 1], r));
-                    right.extend(parts_of(rng, shape.scale, r));
+                    right.extend(parts_of(rng, sum, r));
                 }
             }
         }
@@ -58,6 +60,15 @@ fn random_book(rng: &mut Random, shape: &Shape) -> Vec<i32> {
     words.extend(left);
     words.extend(right);
     words
+}
+
+/// How many next posts a choice has, and what their weights add to: the scale, or less where the tour may stop after it. Without a next post the stop is sure.
+fn lines_of(rng: &mut Random, shape: &Shape, most: i32) -> (i32, i32) {
+    if shape.stops == 0 || rng.from(1, 100) > shape.stops {
+        return (most.min(shape.scale), shape.scale);
+    }
+    let r = rng.from(0, most.min(shape.scale - 1));
+    (r, rng.from(r, shape.scale - 1))
 }
 
 /// r numbers below n that rise strictly.
@@ -85,8 +96,8 @@ const BOOK_C: [i32; 32] = [
     1, 2, 11, 1, 2, 1, 2, 2, 1, 1, 1, 0, 1, 1, 1, 0, 1, 0, 1, 0, 0, 5, 1, 3, 1, 1, 1, 4, 1, 2, 1, 0,
 ];
 
-fn typical(rng: &mut Random) -> Vec<i32> {
-    random_book(rng, &Shape { scale: 100, sizes: &[1, 6, 6, 6, 6], choices: 3, costs: (-500, 3000), transitions: &|_| 3 })
+fn typical(rng: &mut Random, stops: i32) -> Vec<i32> {
+    random_book(rng, &Shape { scale: 100, sizes: &[1, 6, 6, 6, 6], choices: 3, costs: (-500, 3000), transitions: &|_| 3, stops })
 }
 
 const LARGEST: [i32; 9] = [1, 7, 8, 8, 8, 8, 8, 8, 8];
@@ -94,7 +105,7 @@ const LARGEST: [i32; 9] = [1, 7, 8, 8, 8, 8, 8, 8, 8];
 /// 64 posts, H = 8, 2,048 lines.
 fn largest(rng: &mut Random, costs: (i32, i32)) -> Vec<i32> {
     let transitions = |i: usize| 3 + (i % 2 == 0 || i < 48) as i32;
-    random_book(rng, &Shape { scale: 10, sizes: &LARGEST, choices: 8, costs, transitions: &transitions })
+    random_book(rng, &Shape { scale: 10, sizes: &LARGEST, choices: 8, costs, transitions: &transitions, stops: 0 })
 }
 
 /// Room for a whole answer.
@@ -160,22 +171,28 @@ fn assert_equal_values(book: &[i32], plans: &mut [u8], listed: usize) {
     }
 }
 
+/// How many books were compared; the choices of half of them may stop.
 fn assert_small_books(rng: &mut Random) -> usize {
-    for round in 0..400 {
+    let mut compared = 0;
+    for round in 0..800 {
+        let stops = if round % 2 == 0 { 0 } else { 50 };
         let sizes: Vec<i32> = (0..rng.from(2, 4)).map(|n| if n == 0 { 1 } else { rng.from(1, 4) }).collect();
         let (scale, choices, most) = (rng.from(1, 6), rng.from(1, 3), rng.from(1, 4));
-        let shape = Shape { scale, sizes: &sizes, choices, costs: (0, rng.from(0, 9)), transitions: &|i| 1 + (i as i32 % most) };
+        let shape = Shape { scale, sizes: &sizes, choices, costs: (0, rng.from(0, 9)), transitions: &|i| 1 + (i as i32 % most), stops };
         let mut book = random_book(rng, &shape);
+        assert_eq!(kbest::check(&book), Ok(()), "a book that is not spoiled is accepted: {book:?}");
         assert_equal(&book);
         let at = rng.from(0, book.len() as i32 - 1) as usize;
         book[at] += rng.from(-2, 2);
         assert_equal(&book);
-        if round % 4 == 0 {
+        compared += 2;
+        if round % 8 < 2 {
             book.truncate(at);
             assert_equal(&book);
+            compared += 1;
         }
     }
-    900
+    compared
 }
 
 /// Seconds of one call, by `repeats` of it.
@@ -301,7 +318,7 @@ fn books_by_lines(rng: &mut Random) -> Vec<(usize, Vec<i32>)> {
     shapes
         .iter()
         .map(|&(choices, r)| {
-            let shape = Shape { scale: 10, sizes: &LARGEST, choices, costs: (-500, 3000), transitions: &|_| r };
+            let shape = Shape { scale: 10, sizes: &LARGEST, choices, costs: (-500, 3000), transitions: &|_| r, stops: 0 };
             let book = random_book(rng, &shape);
             (book[2] as usize, book)
         })
@@ -332,9 +349,10 @@ fn main() {
     let books = [
         ("book A", BOOK_A.to_vec()),
         ("book C", BOOK_C.to_vec()),
-        ("typical", typical(&mut rng)),
+        ("typical", typical(&mut rng, 0)),
         ("largest", largest(&mut rng, (-500, 3000))),
         ("ties (largest)", largest(&mut rng, (0, 0))),
+        ("stops (typical)", typical(&mut Random(521288629), 30)),
     ];
     let words: Vec<String> = std::env::args().skip(1).collect();
     if !words.is_empty() {

@@ -143,6 +143,15 @@ class Verbs(Folder):
         for name, words in (('a.txt', tours.book_a()), ('c.txt', tours.book_c())):
             self.expect(run(os.path.join(ROOT, 'examples', name), '3'), 0, ref.page(b'\3\0\0\0' + book.bytes_of_words(words)))
 
+    def test_refused_parcel(self):
+        """The example with stops, as docs/FORMAT.md works it out; the same book from its text with the stops left out."""
+        path = os.path.join(ROOT, 'examples', 'refused_parcel.txt')
+        page = b'4 of 4, scale 16\n1 256 0 1 -\n2 277 0 0 0\n3 352 1 1 -\n4 380 1 0 0\n'
+        self.expect(run(path, '4'), 0, page)
+        with open(path, 'rb') as f:
+            short = b''.join(line for line in f if not line.lstrip().startswith(b'stop'))
+        self.expect(run('-', '4', data=short), 0, page)
+
     def test_help(self):
         for words in (['-h'], ['--help'], ['file', '-h']):
             done = run(*words)
@@ -220,7 +229,7 @@ class Refusals(Folder):
                 self.expect(run('print', self.path('source'), '3'), 1, b'refused %d\n' % number, reason(number))
 
     def test_files(self):
-        self.each_verb(self.file('source', text(tours.book_a(scale=3))), 12, ('print', '3'), ('file', '3'))
+        self.each_verb(self.file('source', text(tours.book_a(scale=1))), 12, ('print', '3'), ('file', '3'))
 
     def test_counts(self):
         source = self.file('source', A)
@@ -229,7 +238,7 @@ class Refusals(Folder):
         self.each_verb(source, 14, ('file', '0'))
 
     def test_records(self):
-        carried = kinds.head(tours.book_a(scale=3), 3, 2) + book.bytes_of_words(tours.book_a(scale=3))
+        carried = kinds.head(tours.book_a(scale=1), 3, 2) + book.bytes_of_words(tours.book_a(scale=1))
         for number, record in ((19, A_3[:11]), (12, carried), (14, tours.record_of_a(65)), (20, tours.record_of_a(1)), (21, A_3[:-1] + b'\1')):
             with self.subTest(number=number):
                 self.assertEqual(ref.accept(record)[0], number)
@@ -269,7 +278,7 @@ class Wrong(Folder):
             self.expect_reason(done, 2)
 
     def test_texts(self):
-        for data in (b'', b'scale 2\nplace 0\n', b'scale 2\n\xff', A_3, b'scale ' + b'9' * 5000):
+        for data in (b'', b'scale 2\nplace 0\n', b'scale 2\n\xff', A_3, b'scale ' + b'9' * 5000, A + b'stop weight 2\n'):
             for verb in ('print', 'file'):
                 with self.subTest(verb=verb, data=data[:20]):
                     self.wrong(verb, '-', '3', '-o', self.path('none'), data=data)
@@ -277,6 +286,8 @@ class Wrong(Folder):
 
     def test_line_is_named(self):
         self.assertIn(b'-: line 2: unknown word "place"', run('-', '3', data=b'scale 2\nplace 0\n').stderr)
+        more = A.replace(b'choice 1 cost 12\n', b'choice 1 cost 12\nstop weight 1\n')
+        self.assertIn(b'-: line 9: a line "stop" where no part is missing', run('-', '3', data=more).stderr)
 
     def test_record_to_terminal(self):
         """Only a file, or what is no terminal, can take a record."""

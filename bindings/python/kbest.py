@@ -1,8 +1,8 @@
 """The K best plans of a tour book, over the shared library that is linked from libkbest_c.a.
 
-A book is a sequence of 32-bit words, a plan and a record are bytes. Costs are exact and stand over D^H. A refusal raises Refused, which has the
-number and the text of the first question that is answered no. The first call loads the library: KBEST_LIBRARY names it; else it is looked for
-where the build puts it.
+A book is a sequence of 32-bit words, a plan and a record are bytes. Costs are exact and stand over D^H. Where the weights of a choice before the last
+stage add to less than D, the tour may stop after it: what is missing is the chance, over D. A refusal raises Refused, which has the number and the text
+of the first question that is answered no. The first call loads the library: KBEST_LIBRARY names it; else it is looked for where the build puts it.
 """
 
 import ctypes
@@ -11,8 +11,8 @@ import os
 import pathlib
 
 # of this module, as text and as the number that version() gives of the library
-VERSION_TEXT = '1.0.0'
-VERSION = 10000
+VERSION_TEXT = '1.1.0'
+VERSION = 10100
 
 BOOK_MOST = 4172
 POSTS_MOST = 64
@@ -30,10 +30,10 @@ QUESTIONS = {
     6: 'is there one post at stage 0, are there 1 to 16 at every other, and at most 64 in all?',
     7: 'is the length exactly 4 + H + S + 2L words?',
     8: 'has each post 1 to 8 choices, and 1 at stage H?',
-    9: 'is every r as allowed, do all lines fit, and are exactly L used?',
+    9: 'is every r from 0 to 16, and 0 at stage H, do all lines fit, and are exactly L used?',
     10: 'is every cost from -100,000 to 100,000?',
     11: 'do the next posts of each choice rise strictly and lie within the next stage?',
-    12: "is every weight from 1 to D, and does each choice's sum to D?",
+    12: "is every weight from 1 to D, and does each choice's sum to at most D?",
     13: 'is D^H x (H + 1) x (largest cost without its sign) at most 4 x 10^18?',
     14: 'is K from 1 to 64?',
     15: 'has the lent array of costs K places?',

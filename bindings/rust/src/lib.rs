@@ -1,15 +1,16 @@
 //! The K best plans of a tour book: a safe wrapper of the static library `libkbest_c.a`.
 //!
-//! A book is a slice of 32-bit words, a plan one byte for each post. Costs are exact and stand over D^H. Each call takes any slice of any length
-//! and any count; what cannot be answered is refused with the first question that is answered no. Nothing is allocated here.
+//! A book is a slice of 32-bit words, a plan one byte for each post. Costs are exact and stand over D^H. Where the weights of a choice before the last
+//! stage add to less than D, the tour may stop after it: what is missing is the chance, over D. Each call takes any slice of any length and any count;
+//! what cannot be answered is refused with the first question that is answered no. Nothing is allocated here.
 
 use std::fmt;
 use std::num::NonZeroU32;
 
 /// The version of this wrapper as text.
-pub const VERSION_TEXT: &str = "1.0.0";
+pub const VERSION_TEXT: &str = "1.1.0";
 /// The same as a number: the first × 10,000 + the second × 100 + the third.
-pub const VERSION: u32 = 10000;
+pub const VERSION: u32 = 10100;
 
 /// The longest book in words.
 pub const BOOK_MOST: usize = 4172;
@@ -32,10 +33,10 @@ pub const QUESTIONS: [&str; 21] = [
     "is there one post at stage 0, are there 1 to 16 at every other, and at most 64 in all?",
     "is the length exactly 4 + H + S + 2L words?",
     "has each post 1 to 8 choices, and 1 at stage H?",
-    "is every r as allowed, do all lines fit, and are exactly L used?",
+    "is every r from 0 to 16, and 0 at stage H, do all lines fit, and are exactly L used?",
     "is every cost from -100,000 to 100,000?",
     "do the next posts of each choice rise strictly and lie within the next stage?",
-    "is every weight from 1 to D, and does each choice's sum to D?",
+    "is every weight from 1 to D, and does each choice's sum to at most D?",
     "is D^H x (H + 1) x (largest cost without its sign) at most 4 x 10^18?",
     "is K from 1 to 64?",
     "has the lent array of costs K places?",
