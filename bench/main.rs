@@ -23,8 +23,8 @@ impl Random {
     }
 }
 
-/// What a book of random costs and weights looks like. `transitions(i)` is how many next posts the i-th choice has; one that may stop can have fewer. Of 100
-/// choices before the last stage, `stops` may; where that is 0 nothing is drawn for it, so that a book is the same whether or not others have stops.
+/// What a book of random costs and weights looks like. `transitions(i)` is how many next posts the i-th choice has. Of 100 choices before the last stage,
+/// `stops` leave a part of the scale missing; these have as many next posts or fewer.
 struct Shape<'a> {
     scale: i32,
     sizes: &'a [i32],
@@ -62,7 +62,7 @@ fn random_book(rng: &mut Random, shape: &Shape) -> Vec<i32> {
     words
 }
 
-/// How many next posts a choice has, and what their weights add to: the scale, or less where the tour may stop after it. Without a next post the stop is sure.
+/// How many next posts a choice has and what their weights add to: the scale, or less where the tour may stop. Without a next post the stop is sure.
 fn lines_of(rng: &mut Random, shape: &Shape, most: i32) -> (i32, i32) {
     if shape.stops == 0 || rng.from(1, 100) > shape.stops {
         return (most.min(shape.scale), shape.scale);
