@@ -352,7 +352,7 @@ fn main() {
         ("typical", typical(&mut rng, 0)),
         ("largest", largest(&mut rng, (-500, 3000))),
         ("ties (largest)", largest(&mut rng, (0, 0))),
-        ("stops (typical)", typical(&mut Random(521288629), 30)),
+        ("stops (typical)", typical(&mut Random(362436069), 30)), // its best plan reaches most posts
     ];
     let words: Vec<String> = std::env::args().skip(1).collect();
     if !words.is_empty() {
