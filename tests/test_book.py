@@ -36,19 +36,6 @@ choice 0 cost 9
 '''
 
 
-def fewer(rng, nexts):
-    """Some of the next posts, or none, each with its weight or a lower one."""
-    kept = rng.choice([nexts, nexts[:rng.randint(0, len(nexts))], []])
-    return [(step, rng.choice([weight, rng.randint(1, weight)])) for step, weight in kept]
-
-
-def with_stops(rng, words):
-    """The same book, with a part missing at many choices before the last stage."""
-    found = ref.Book(words)
-    choices = [[(cost, fewer(rng, nexts) if stage < found.stages else nexts) for cost, nexts in here] for stage, here in zip(found.stage, found.choices)]
-    return books.build(found.scale, found.sizes, choices)
-
-
 def stop_weights(words):
     """The missing part of each choice that a line can say it of, in order."""
     found = ref.Book(words)
@@ -61,15 +48,14 @@ def drawn(count):
     """Good books, books with stops, books with faults, and words that are no book."""
     rng = random.Random('text')
     for _ in range(count):
-        shape = rng.choice(books.SHAPES + [books.many])
-        words = shape(rng)
-        yield words
-        yield with_stops(rng, words)
-        if not ref.check(words):
-            yield books.broken(rng, rng.choice([words, with_stops(rng, words)]), rng.sample(books.BREAKS, rng.randint(1, 3)))
+        for shapes in (books.WITHOUT_STOPS + [books.many], books.WITH_STOPS + [books.stops_many]):
+            words = rng.choice(shapes)(rng)
+            yield words
+            if not ref.check(words):
+                yield books.broken(rng, words, rng.sample(books.BREAKS, rng.randint(1, 3)))
         yield books.wild(rng)
     yield books.large(rng)
-    yield with_stops(rng, books.large(rng))
+    yield books.stops_large(rng)
 
 
 class RoundTrips(unittest.TestCase):
@@ -131,7 +117,7 @@ class Stops(unittest.TestCase):
     def drawn(self):
         rng = random.Random('stops')
         for _ in range(150):
-            yield rng, with_stops(rng, rng.choice(books.SHAPES)(rng))
+            yield rng, rng.choice(books.WITH_STOPS)(rng)
 
     def stops_of(self, text):
         """(line from 1, weight) of each line stop."""
@@ -276,7 +262,6 @@ class Records(unittest.TestCase):
             words = books.draw(rng, rng.choice(books.SHAPES))
             if ref.check(words):
                 continue
-            words = rng.choice([words, with_stops(rng, words)])
             k = rng.randint(1, 64)
             text = book.record_to_text(ref.record(words, k))
             self.assertEqual(book.words_of_text(text.encode()), words)

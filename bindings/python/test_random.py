@@ -19,7 +19,7 @@ from test_cases import NUMBERS
 
 SEED = 'bindings'
 MANY, FEW = 18, 2    # cases of each kind
-SLOW = ('many', 'large', 'full')
+SLOW = ('many', 'large', 'full', 'stops_many', 'stops_large', 'stops_full')
 
 
 def answer(call, *arguments):
