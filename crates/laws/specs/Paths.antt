@@ -13,7 +13,7 @@ use lib.Dec.{ltb}
 use lib.IntN.{ℤ, pos, _+ℤ_, _*ℤ_, +ℤ-idl, +ℤ-assoc}
 use lib.ListN.{length}
 use Rattle.model.specs.Lists.{forEach}
-use Rattle.model.specs.Model.{Transition, Action, weightsOf}
+use Rattle.model.specs.Model.{Transition, Action, weightsOf, missing}
 use Rattle.model.specs.Path.{Step, Path, pathWeight, pathCost, stopsAfter, pathsFrom, totalCost, totalWeight}
 use Rattle.model.specs.Recursion.{expected, costToGo}
 use Rattle.laws.specs.Int.{is, dif-eq, ring}
@@ -59,28 +59,24 @@ no-step : (e : ℕ) (c : ℤ) → pos 0 ≡ pos (0 * e) *ℤ c
 no-step e c = rw (is c) (simp ring (dif-eq _ _ _ _ (omega arith)))
 
 module _ (D m p : ℕ) (a : Action) where
-  -- what its weights leave of D
-  abbrev missing : ℕ
-  missing = D - weightsOf (a .transitions)
-
   abbrev stop : Path
-  stop = record { state = p; cost = a .cost; weight = missing * D ^ m } ∷ []
+  stop = record { state = p; cost = a .cost; weight = missing D a * D ^ m } ∷ []
 
-  none-missing : ltb (weightsOf (a .transitions)) D ≡ false → missing ≡ 0
+  none-missing : ltb (weightsOf (a .transitions)) D ≡ false → missing D a ≡ 0
   none-missing e = omega (arith, ltb-false (weightsOf (a .transitions)) D e)
 
-  weight-stop : totalWeight (stopsAfter D m p a) ≡ missing * D ^ m
+  weight-stop : totalWeight (stopsAfter D m p a) ≡ missing D a * D ^ m
   weight-stop = go (ltb (weightsOf (a .transitions)) D) refl
     where
-      go : (b : Bool) → ltb (weightsOf (a .transitions)) D ≡ b → totalWeight (cond b (stop ∷ []) []) ≡ missing * D ^ m
+      go : (b : Bool) → ltb (weightsOf (a .transitions)) D ≡ b → totalWeight (cond b (stop ∷ []) []) ≡ missing D a * D ^ m
       go true e = omega arith
       go false e = rw (none-missing e) (omega arith)
 
-  cost-stop : totalCost (stopsAfter D m p a) ≡ pos (missing * D ^ m) *ℤ a .cost
+  cost-stop : totalCost (stopsAfter D m p a) ≡ pos (missing D a * D ^ m) *ℤ a .cost
   cost-stop = go (ltb (weightsOf (a .transitions)) D) refl
     where
-      go : (b : Bool) → ltb (weightsOf (a .transitions)) D ≡ b → totalCost (cond b (stop ∷ []) []) ≡ pos (missing * D ^ m) *ℤ a .cost
-      go true e = one-step (missing * D ^ m) (a .cost)
+      go : (b : Bool) → ltb (weightsOf (a .transitions)) D ≡ b → totalCost (cond b (stop ∷ []) []) ≡ pos (missing D a * D ^ m) *ℤ a .cost
+      go true e = one-step (missing D a * D ^ m) (a .cost)
       go false e = rw (none-missing e) (no-step (D ^ m) (a .cost))
 
   stop-ends : (x : Path) → In x (stopsAfter D m p a) → (x ≡ stop) × (weightsOf (a .transitions) < D)
@@ -93,7 +89,7 @@ module _ (D m p : ℕ) (a : Action) where
   positive-stop : (x : Path) → In x (stopsAfter D m p a) → 0 < pathWeight x
   positive-stop x i =
       let e = stop-ends x i in
-      let w = mul-pos {m = missing} {n = D ^ m} (omega (arith, e .1)) (omega (arith, one-le-pow m D (omega (arith, e .1)))) in
+      let w = mul-pos {m = missing D a} {n = D ^ m} (omega (arith, e .1)) (omega (arith, one-le-pow m D (omega (arith, e .1)))) in
       rw (e .0) (omega arith)
 
 -- what is passed on and what is missing make the whole
@@ -165,20 +161,21 @@ module _ (D : ℕ) (taken : ℕ → Action) where
     cost-paths (suc m) p =
         cost-++ (forEach (pathsBy m p) (taken p .transitions)) (stopsAfter D m p (taken p))
         ∙ ap₂ _+ℤ_ (cost-by m p (cost-paths m) (taken p .transitions)) (cost-stop D m p (taken p))
-        ∙ with-stop (weightsOf (taken p .transitions) * D ^ m) (missing D m p (taken p) * D ^ m) (taken p .cost)
+        ∙ with-stop (weightsOf (taken p .transitions) * D ^ m) (missing D (taken p) * D ^ m) (taken p .cost)
         (expected (costToGo D taken m) (taken p .transitions))
         ∙ ap (λ (n : ℕ). pos n *ℤ taken p .cost +ℤ expected (costToGo D taken m) (taken p .transitions))
         (all-parts (weightsOf (taken p .transitions)) D m (small p))
 
   -- a path from state p begins with the step of a transition, or stops there
-  begins : (m p : ℕ) (x : Path) → In x (pathsFrom D taken (suc m) p)
-      → ((t : Transition) × In t (taken p .transitions) × ((y : Path) × (x ≡ stepBy p t ∷ y) × In y (pathsFrom D taken m (t .next))))
+  abbrev Begins : ℕ → ℕ → Path → Type 0
+  Begins m p x =
+      ((t : Transition) × In t (taken p .transitions) × ((y : Path) × (x ≡ stepBy p t ∷ y) × In y (pathsFrom D taken m (t .next))))
       ⊎ In x (stopsAfter D m p (taken p))
+
+  begins : (m p : ℕ) (x : Path) → In x (pathsFrom D taken (suc m) p) → Begins m p x
   begins m p x i = go (in-++ x (forEach (pathsBy m p) (taken p .transitions)) (stopsAfter D m p (taken p)) i)
     where
-      go : In x (forEach (pathsBy m p) (taken p .transitions)) ⊎ In x (stopsAfter D m p (taken p))
-          → ((t : Transition) × In t (taken p .transitions) × ((y : Path) × (x ≡ stepBy p t ∷ y) × In y (pathsFrom D taken m (t .next))))
-          ⊎ In x (stopsAfter D m p (taken p))
+      go : In x (forEach (pathsBy m p) (taken p .transitions)) ⊎ In x (stopsAfter D m p (taken p)) → Begins m p x
       go (inl j) =
           let t = in-forEach (pathsBy m p) x (taken p .transitions) j in
           inl (t .0, t .1, in-map (λ (y : Path). stepBy p (t .0) ∷ y) x (pathsFrom D taken m (t .0 .next)) (t .2))
@@ -190,30 +187,25 @@ module _ (D : ℕ) (taken : ℕ → Action) where
   positive-paths some zero p x i = rw (in-one i) (omega arith)
   positive-paths some (suc m) p x i = go (positive-paths some m) (begins m p x i)
     where
-      go : ((q : ℕ) (y : Path) → In y (pathsFrom D taken m q) → 0 < pathWeight y)
-          → ((t : Transition) × In t (taken p .transitions) × ((y : Path) × (x ≡ stepBy p t ∷ y) × In y (pathsFrom D taken m (t .next))))
-          ⊎ In x (stopsAfter D m p (taken p)) → 0 < pathWeight x
+      go : ((q : ℕ) (y : Path) → In y (pathsFrom D taken m q) → 0 < pathWeight y) → Begins m p x → 0 < pathWeight x
       go ih (inl b) =
           rw (b .2 .1)
-          (mul-pos {m = b .0 .weight} {n = pathWeight (b .2 .0)} (every-in (λ (t : Transition). 0 < t .weight) (taken p .transitions) (some p) (b .0) (b .1))
-          (ih (b .0 .next) (b .2 .0) (b .2 .2)))
+          (mul-pos {m = b .0 .weight} {n = pathWeight (b .2 .0)}
+          (every-in (λ (t : Transition). 0 < t .weight) (taken p .transitions) (some p) (b .0) (b .1)) (ih (b .0 .next) (b .2 .0) (b .2 .2)))
       go ih (inr j) = positive-stop D m p (taken p) x j
 
-  -- a path has a step for each stage, or it ends earlier after an action whose weights add to less than D
-  pub path-ends : (m p : ℕ) (x : Path) → In x (pathsFrom D taken m p) → (d : ℕ)
-      → (length x ≡ m + 1) ⊎ ((length x ≤ m) × (weightsOf (taken (endsAt d x) .transitions) < D))
+  -- a path that begins after state d has a step for each stage, or it ends earlier after an action whose weights add to less than D
+  abbrev pub Ends : ℕ → ℕ → Path → Type 0
+  Ends m d x = (length x ≡ m + 1) ⊎ ((length x ≤ m) × (weightsOf (taken (endsAt d x) .transitions) < D))
+
+  pub path-ends : (m p : ℕ) (x : Path) → In x (pathsFrom D taken m p) → (d : ℕ) → Ends m d x
   path-ends zero p x i d = inl (rw (in-one i) (omega arith))
   path-ends (suc m) p x i d = go (path-ends m) (begins m p x i)
     where
-      Ends : ℕ → ℕ → Path → Type 0
-      Ends m d y = (length y ≡ m + 1) ⊎ ((length y ≤ m) × (weightsOf (taken (endsAt d y) .transitions) < D))
-
       longer : (t : Transition) (y : Path) → Ends m p y → Ends (suc m) d (stepBy p t ∷ y)
       longer t y (inl e) = inl (omega arith)
       longer t y (inr h) = inr (omega (arith, h .0), h .1)
 
-      go : ((q : ℕ) (y : Path) → In y (pathsFrom D taken m q) → (d : ℕ) → Ends m d y)
-          → ((t : Transition) × In t (taken p .transitions) × ((y : Path) × (x ≡ stepBy p t ∷ y) × In y (pathsFrom D taken m (t .next))))
-          ⊎ In x (stopsAfter D m p (taken p)) → Ends (suc m) d x
+      go : ((q : ℕ) (y : Path) → In y (pathsFrom D taken m q) → (d : ℕ) → Ends m d y) → Begins m p x → Ends (suc m) d x
       go ih (inl b) = rw (b .2 .1) (longer (b .0) (b .2 .0) (ih (b .0 .next) (b .2 .0) (b .2 .2) p))
       go ih (inr j) = let e = stop-ends D m p (taken p) x j in rw (e .0) (inr (omega arith, e .1))

@@ -91,11 +91,14 @@ pub record Action : Type 0 where
   pub cost : ℤ
   pub transitions : List Transition
 
--- the sum of transitions' weights (request 2.1: "a choice's weights as adding to at most D, and the missing part is the chance that the tour stops
--- there")
+-- the sum of transitions' weights
 abbrev pub weightsOf : List Transition → ℕ
 weightsOf [] = 0
 weightsOf (t ∷ ts) = t .weight + weightsOf ts
+
+-- Request 2.1: "a choice's weights as adding to at most D, and the missing part is the chance that the tour stops there"
+abbrev pub missing : ℕ → Action → ℕ
+missing D a = D - weightsOf (a .transitions)
 
 -- "the next post, counted from 0 within the next stage (left), and its weight (right)", for a state of stage n
 unfoldable pub transitionAt : Words → ℕ → ℕ → Transition

@@ -1,14 +1,14 @@
 -- The sample paths of a policy (document 01: the days of a plan), and its cost: the sum over all of them of weight × cost. Sentences about days that stop
 -- are those of request 2.1.
 -- Assumes nothing.
-use Prim.Native.Nat.{ℕ, zero, suc, _+_, _*_, _-_, _^_}
+use Prim.Native.Nat.{ℕ, zero, suc, _+_, _*_, _^_}
 use mathlib.Core.Bool.{cond}
 use mathlib.Core.List.{List, [], _∷_, _++_, map}
 use lib.IntN.{ℤ, pos, _+ℤ_, _*ℤ_}
 use lib.Dec.{ltb}
 use lib.ListN.{getD}
 use Rattle.model.specs.Lists.{forEach}
-use Rattle.model.specs.Model.{Words, Transition, Action, weightsOf, scale, horizon, action}
+use Rattle.model.specs.Model.{Words, Transition, Action, weightsOf, missing, scale, horizon, action}
 use Rattle.model.specs.Policy.{Policy}
 
 -- a step of a path: the state, the cost of the action taken there, and the weight of the transition taken, or of the stop (1 at the last stage)
@@ -36,7 +36,7 @@ pathCost (s ∷ ss) = s .cost +ℤ pathCost ss
 abbrev pub stopsAfter : ℕ → ℕ → ℕ → Action → List Path
 stopsAfter D m p a =
     cond (ltb (weightsOf (a .transitions)) D)
-    ((record { state = p; cost = a .cost; weight = (D - weightsOf (a .transitions)) * D ^ m } ∷ []) ∷ []) []
+    ((record { state = p; cost = a .cost; weight = missing D a * D ^ m } ∷ []) ∷ []) []
 
 -- the paths from state p with m stages still to come, where `taken` is the action at each state
 abbrev pub pathsFrom : ℕ → (ℕ → Action) → ℕ → ℕ → List Path

@@ -13,7 +13,7 @@ abbrev pub expected : (ℕ → ℤ) → List Transition → ℤ
 expected v [] = pos 0
 expected v (t ∷ ts) = pos (t .weight) *ℤ v (t .next) +ℤ expected v ts
 
--- an action's cost against D^m, and what is expected after it
+-- an action's cost against D^m, and what is expected after it; nothing comes after a stop, so what its weights leave of D adds nothing
 abbrev pub actionCost : ℕ → ℕ → (ℕ → ℤ) → Action → ℤ
 actionCost D m v a = pos (D ^ m) *ℤ a .cost +ℤ expected v (a .transitions)
 
