@@ -7,7 +7,7 @@ use native.Mathlib.Omega.{arith}
 use borrow.Author.Tests.{eq-eqb, ne-eqb, le-leb, lt-leb, leb-true}
 use lib.IntN.{ℤ, pos, negsuc, natAbs}
 use lib.Signed.{ltZ}
-use lib.Dec.{eqb, leb}
+use lib.Dec.{leb}
 use Rattle.model.specs.Lists.{all, sumTo}
 use Rattle.model.specs.Model.{Words, word, scale, horizon, lineCount, left, right, branches, lineAfter, stageSize}
 use Rattle.model.specs.Questions.{inside, branchesInside, costInside, nextBefore, branchesAllowed, costAllowed, nextsAllowed, weightSum, weightsAllowed}

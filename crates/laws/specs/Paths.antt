@@ -117,13 +117,14 @@ one-transition w v e c t s = rw (is c, is t, is s) (simp ring (dif-eq _ _ _ _ (o
 with-stop : (x y : ℕ) (c t : ℤ) → pos x *ℤ c +ℤ t +ℤ pos y *ℤ c ≡ pos (x + y) *ℤ c +ℤ t
 with-stop x y c t = rw (is c, is t) (simp ring (dif-eq _ _ _ _ (omega arith)))
 
-module _ (D : ℕ) (taken : ℕ → Action) where
-  -- the step at state p that takes transition t, and the paths that begin with it
-  abbrev stepBy : ℕ → Transition → Step
-  stepBy p t = record { state = p; cost = taken p .cost; weight = t .weight }
+-- the step at state p that takes transition t
+abbrev pub stepBy : (ℕ → Action) → ℕ → Transition → Step
+stepBy taken p t = record { state = p; cost = taken p .cost; weight = t .weight }
 
+module _ (D : ℕ) (taken : ℕ → Action) where
+  -- the paths from state p that begin with transition t
   abbrev pathsBy : ℕ → ℕ → Transition → List Path
-  pathsBy m p t = map (λ (x : Path). stepBy p t ∷ x) (pathsFrom D taken m (t .next))
+  pathsBy m p t = map (λ (x : Path). stepBy taken p t ∷ x) (pathsFrom D taken m (t .next))
 
   module _ (small : (p : ℕ) → weightsOf (taken p .transitions) ≤ D) where
     weight-by : (m p : ℕ) → ((q : ℕ) → totalWeight (pathsFrom D taken m q) ≡ D ^ m)
@@ -131,7 +132,7 @@ module _ (D : ℕ) (taken : ℕ → Action) where
     weight-by m p ih [] = omega arith
     weight-by m p ih (t ∷ ts) =
         weight-++ (pathsBy m p t) (forEach (pathsBy m p) ts)
-        ∙ ap₂ _+_ (weight-step (stepBy p t) (pathsFrom D taken m (t .next)) ∙ ap (λ (n : ℕ). t .weight * n) (ih (t .next))) (weight-by m p ih ts)
+        ∙ ap₂ _+_ (weight-step (stepBy taken p t) (pathsFrom D taken m (t .next)) ∙ ap (λ (n : ℕ). t .weight * n) (ih (t .next))) (weight-by m p ih ts)
         ∙ omega arith
 
     -- the weights of the paths add to D^m
@@ -149,7 +150,7 @@ module _ (D : ℕ) (taken : ℕ → Action) where
     cost-by m p ih (t ∷ ts) =
         cost-++ (pathsBy m p t) (forEach (pathsBy m p) ts)
         ∙ ap₂ _+ℤ_
-        (cost-step (stepBy p t) (pathsFrom D taken m (t .next))
+        (cost-step (stepBy taken p t) (pathsFrom D taken m (t .next))
         ∙ ap₂ (λ (n : ℕ) (z : ℤ). pos (t .weight * n) *ℤ taken p .cost +ℤ pos (t .weight) *ℤ z) (weight-paths m (t .next)) (ih (t .next)))
         (cost-by m p ih ts)
         ∙ one-transition (t .weight) (weightsOf ts) (D ^ m) (taken p .cost)
@@ -169,7 +170,7 @@ module _ (D : ℕ) (taken : ℕ → Action) where
   -- a path from state p begins with the step of a transition, or stops there
   abbrev Begins : ℕ → ℕ → Path → Type 0
   Begins m p x =
-      ((t : Transition) × In t (taken p .transitions) × ((y : Path) × (x ≡ stepBy p t ∷ y) × In y (pathsFrom D taken m (t .next))))
+      ((t : Transition) × In t (taken p .transitions) × ((y : Path) × (x ≡ stepBy taken p t ∷ y) × In y (pathsFrom D taken m (t .next))))
       ⊎ In x (stopsAfter D m p (taken p))
 
   begins : (m p : ℕ) (x : Path) → In x (pathsFrom D taken (suc m) p) → Begins m p x
@@ -178,7 +179,7 @@ module _ (D : ℕ) (taken : ℕ → Action) where
       go : In x (forEach (pathsBy m p) (taken p .transitions)) ⊎ In x (stopsAfter D m p (taken p)) → Begins m p x
       go (inl j) =
           let t = in-forEach (pathsBy m p) x (taken p .transitions) j in
-          inl (t .0, t .1, in-map (λ (y : Path). stepBy p (t .0) ∷ y) x (pathsFrom D taken m (t .0 .next)) (t .2))
+          inl (t .0, t .1, in-map (λ (y : Path). stepBy taken p (t .0) ∷ y) x (pathsFrom D taken m (t .0 .next)) (t .2))
       go (inr j) = inr j
 
   -- where no transition has weight 0, no path has
@@ -202,7 +203,7 @@ module _ (D : ℕ) (taken : ℕ → Action) where
   path-ends zero p x i d = inl (rw (in-one i) (omega arith))
   path-ends (suc m) p x i d = go (path-ends m) (begins m p x i)
     where
-      longer : (t : Transition) (y : Path) → Ends m p y → Ends (suc m) d (stepBy p t ∷ y)
+      longer : (t : Transition) (y : Path) → Ends m p y → Ends (suc m) d (stepBy taken p t ∷ y)
       longer t y (inl e) = inl (omega arith)
       longer t y (inr h) = inr (omega (arith, h .0), h .1)
 

@@ -10,7 +10,7 @@ use lib.ListN.{length, take}
 use Rattle.model.specs.Lists.{all, forEach, sorted}
 use Rattle.model.specs.Bytes.{bytes, signedBytes}
 use Rattle.model.specs.Model.{Words, Transition, Action, scale, horizon, lineCount, stateCount, left, right, branches, lineAfter, stateLine}
-use Rattle.model.specs.Questions.{Question, firstNo, inside, mostBranches, countsAllowed, everyAction, costAllowed, nextsAllowed, weightSum, costsBounded, sizeQuestions}
+use Rattle.model.specs.Questions.{Question, firstNo, inside, mostBranches, everyAction, weightSum, bookQuestions}
 use Rattle.model.specs.Policy.{Policy, policies}
 use Rattle.model.specs.Path.{Path, totalCost, taken}
 use Rattle.model.specs.Order.{before}
@@ -33,19 +33,15 @@ baseWeights ws n j =
     all (branches ws j) (λ (i : ℕ). inside (pos 1) (pos (scale ws)) (right ws (j + 1 + i)))
     && (eqb n (horizon ws) || eqb (weightSum ws j) (scale ws))
 
-abbrev pub baseQuestions : List (Question Words)
-baseQuestions =
-    record { number = 8; asks = countsAllowed }
-    ∷ record { number = 9; asks = baseLines }
-    ∷ record { number = 10; asks = everyAction costAllowed }
-    ∷ record { number = 11; asks = everyAction nextsAllowed }
-    ∷ record { number = 12; asks = everyAction baseWeights }
-    ∷ record { number = 13; asks = costsBounded }
-    ∷ []
+-- a question of a book: 9 and 12 ask these, every other what it asks
+abbrev pub baseQuestion : Question Words → Question Words
+baseQuestion q =
+    cond (eqb (q .number) 9) (record { number = 9; asks = baseLines })
+    (cond (eqb (q .number) 12) (record { number = 12; asks = everyAction baseWeights }) q)
 
--- the number of the first "no" of these questions 1 to 13, or 0
+-- the number of the first "no" of the questions 1 to 13, or 0
 unfoldable pub baseNumber : Words → ℕ
-baseNumber ws = firstNo (sizeQuestions ++ baseQuestions) ws
+baseNumber ws = firstNo (map baseQuestion bookQuestions) ws
 
 -- ---- the days
 

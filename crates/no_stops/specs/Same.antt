@@ -9,34 +9,34 @@ use Prim.Native.Nat.{ℕ, zero, suc, _+_, _^_, _≤_, _<_}
 use native.Mathlib.Nat.{eq-or-lt-of-le}
 use native.Mathlib.Omega.{arith}
 use borrow.Author.Tests.{eqb-true, eqb-false, eq-eqb, ne-eqb, le-leb, le-ltb}
-use lib.Dec.{T, eqb, leb, ltb}
+use lib.Dec.{T, eqb, leb}
 use lib.IntN.{ℤ, pos, negsuc, natAbs}
 use lib.Signed.{ltZ, mag}
-use lib.ListN.{length, take}
+use lib.ListN.{take}
 use Rattle.model.specs.Lists.{all, forEach}
 use Rattle.model.specs.Model.{Words, Transition, Action, weightsOf, scale, horizon, lineCount, stateCount, stage, togo, actionCount, left, right}
 use Rattle.model.specs.Model.{branches, lineAfter, stateLine, actionLine, action, options}
-use Rattle.model.specs.Questions.{Question, firstNo, andThen, inside, mostBranches, countsAllowed, everyAction, branchesAllowed, linesAllowed, costAllowed}
-use Rattle.model.specs.Questions.{nextsAllowed, weightSum, weightsAllowed, costsBounded}
+use Rattle.model.specs.Questions.{firstNo, andThen, inside, mostBranches, everyAction, branchesAllowed, linesAllowed, weightSum, weightsAllowed}
 use Rattle.model.specs.Questions.{sizeQuestions, actionQuestions, bookNumber}
 use Rattle.model.specs.Policy.{Policy, isPolicy, policies}
-use Rattle.model.specs.Path.{Step, Path, totalCost, pathsFrom, stopsAfter, byteAt, taken, paths, policyCost}
+use Rattle.model.specs.Path.{Path, totalCost, pathsFrom, stopsAfter, byteAt, taken, paths, policyCost}
 use Rattle.model.specs.Order.{lower, before, comesBefore, ranking, rankingCosts}
 use Rattle.model.specs.Record.{listBytes, recordBytes, acceptNumber}
 use Rattle.laws.specs.Members.{In, Every, every-both, AtNexts, map-same}
+use Rattle.laws.specs.Paths.{stepBy}
 use Rattle.laws.specs.Sorting.{sorted-same}
 use Rattle.laws.specs.Best.{Obeys}
 use Rattle.laws.specs.First.{policy-obeys}
-use Rattle.questions.specs.Ranges.{and-true, all-at, all-same}
-use Rattle.questions.specs.FirstNo.{AllYes, passed, after, then-zero}
+use Rattle.questions.specs.Ranges.{and-true, all-same}
+use Rattle.questions.specs.FirstNo.{AllYes, passed, after, then-zero, answers-same}
 use Rattle.questions.specs.Sizes.{sized}
 use Rattle.questions.specs.Stages.{of-stage}
-use Rattle.accepted.specs.Facts.{accepted, each-action}
+use Rattle.accepted.specs.Facts.{each-action}
 use Rattle.accepted.specs.Options.{option-below}
 use Rattle.accepted.specs.Shape.{policy-is, action-is, weights-read, no-weight, shape, togo-start}
 use Rattle.accepted.specs.Demands.{policies-are, in-list}
 use Rattle.record.specs.Demand2.{written-accepted}
-use Rattle.no_stops.specs.Base.{baseBranches, baseLines, baseWeights, baseQuestions, baseNumber, basePathsFrom, basePaths, baseCost, baseRanking}
+use Rattle.no_stops.specs.Base.{baseBranches, baseLines, baseWeights, baseQuestion, baseNumber, basePathsFrom, basePaths, baseCost, baseRanking}
 use Rattle.no_stops.specs.Base.{baseCosts, baseRecord}
 
 -- the weights of every action before stage H, reached or not, add to D
@@ -103,29 +103,21 @@ module _ (ws : Words) (full : NoStops ws) (low : 1 ≤ scale ws) where
   lines-same =
       ap (λ (t : Bool). t && eqb (stateLine ws (stateCount ws)) (lineCount ws)) (every-same ws baseBranches branchesAllowed branches-same)
 
-  -- the questions 8 to 13 by the answers to 9 and 12
-  abbrev answered : Bool → Bool → List (Question Words)
-  answered nine twelve =
-      record { number = 8; asks = countsAllowed }
-      ∷ record { number = 9; asks = λ (_ : Words). nine }
-      ∷ record { number = 10; asks = everyAction costAllowed }
-      ∷ record { number = 11; asks = everyAction nextsAllowed }
-      ∷ record { number = 12; asks = λ (_ : Words). twelve }
-      ∷ record { number = 13; asks = costsBounded }
-      ∷ []
-
-  rest-same : firstNo baseQuestions ws ≡ firstNo actionQuestions ws
-  unfolding firstNo
+  -- 8 to 13: only 9 and 12 are other questions
+  rest-same : firstNo (map baseQuestion actionQuestions) ws ≡ firstNo actionQuestions ws
   rest-same =
-      ap₂ (λ (nine twelve : Bool). firstNo (answered nine twelve) ws) lines-same (every-same ws baseWeights weightsAllowed weights-same)
+      answers-same ws baseQuestion actionQuestions
+      (refl, refl, (refl, lines-same, (refl, refl, (refl, refl, (refl, every-same ws baseWeights weightsAllowed weights-same, (refl, refl, tt))))))
 
 -- words without stops get the same number
 pub questions-same : (ws : Words) → NoStops ws → baseNumber ws ≡ bookNumber ws
 unfolding baseNumber bookNumber
 questions-same ws full =
-    after ws sizeQuestions baseQuestions (omega arith) ∙ go (firstNo sizeQuestions ws) refl ∙ sym (after ws sizeQuestions actionQuestions (omega arith))
+    after ws sizeQuestions (map baseQuestion actionQuestions) (omega arith)
+    ∙ go (firstNo sizeQuestions ws) refl
+    ∙ sym (after ws sizeQuestions actionQuestions (omega arith))
   where
-    go : (n : ℕ) → firstNo sizeQuestions ws ≡ n → andThen n (firstNo baseQuestions ws) ≡ andThen n (firstNo actionQuestions ws)
+    go : (n : ℕ) → firstNo sizeQuestions ws ≡ n → andThen n (firstNo (map baseQuestion actionQuestions) ws) ≡ andThen n (firstNo actionQuestions ws)
     go zero e = rest-same ws full (sized ws e .d-low)
     go (suc n) e = refl
 
@@ -136,16 +128,17 @@ accepted-full ws ok p c l k h =
     eqb-true (weightSum ws (actionLine ws p c)) (scale ws)
     (rw (ne-eqb (stage ws p) (horizon ws) (λ q. omega arith)) at sum)
   where
-    twelve : AllYes baseQuestions ws
-    twelve =
-        passed ws baseQuestions (omega arith)
-        (then-zero (firstNo sizeQuestions ws) (firstNo baseQuestions ws) (sym (after ws sizeQuestions baseQuestions (omega arith)) ∙ ok) .1)
+    answers : AllYes (map baseQuestion actionQuestions) ws
+    answers =
+        passed ws (map baseQuestion actionQuestions) (omega arith)
+        (then-zero (firstNo sizeQuestions ws) (firstNo (map baseQuestion actionQuestions) ws)
+        (sym (after ws sizeQuestions (map baseQuestion actionQuestions) (omega arith)) ∙ ok) .1)
 
     sum : (eqb (stage ws p) (horizon ws) || eqb (weightSum ws (actionLine ws p c)) (scale ws)) ≡ true
     sum =
         and-true (all (branches ws (actionLine ws p c)) (λ (i : ℕ). inside (pos 1) (pos (scale ws)) (right ws (actionLine ws p c + 1 + i))))
         (eqb (stage ws p) (horizon ws) || eqb (weightSum ws (actionLine ws p c)) (scale ws))
-        (each-action baseWeights ws (twelve .1 .1 .1 .1 .0) p c l k) .1
+        (each-action baseWeights ws (answers .1 .1 .1 .1 .0) p c l k) .1
 
 -- so they accept exactly the accepted books without stops
 pub base-accepts : (ws : Words) → (baseNumber ws ≡ 0) ↔ ((bookNumber ws ≡ 0) × NoStops ws)
@@ -162,16 +155,13 @@ Full D taken zero p = Unit {0}
 Full D taken (suc m) p = (weightsOf (taken p .transitions) ≡ D) × AtNexts (Full D taken m) (taken p .transitions)
 
 module _ (D : ℕ) (taken : ℕ → Action) where
-  abbrev stepBy : ℕ → Transition → Step
-  stepBy p t = record { state = p; cost = taken p .cost; weight = t .weight }
-
   same-by : (m p : ℕ) → ((q : ℕ) → Full D taken m q → pathsFrom D taken m q ≡ basePathsFrom taken m q)
       → (ts : List Transition) → AtNexts (Full D taken m) ts
-      → forEach (λ (t : Transition). map (λ (path : Path). stepBy p t ∷ path) (pathsFrom D taken m (t .next))) ts
-      ≡ forEach (λ (t : Transition). map (λ (path : Path). stepBy p t ∷ path) (basePathsFrom taken m (t .next))) ts
+      → forEach (λ (t : Transition). map (λ (path : Path). stepBy taken p t ∷ path) (pathsFrom D taken m (t .next))) ts
+      ≡ forEach (λ (t : Transition). map (λ (path : Path). stepBy taken p t ∷ path) (basePathsFrom taken m (t .next))) ts
   same-by m p ih [] h = refl
   same-by m p ih (t ∷ ts) h =
-      ap₂ _++_ (ap (map (λ (path : Path). stepBy p t ∷ path)) (ih (t .next) (h .0))) (same-by m p ih ts (h .1))
+      ap₂ _++_ (ap (map (λ (path : Path). stepBy taken p t ∷ path)) (ih (t .next) (h .0))) (same-by m p ih ts (h .1))
 
   no-stop : (m p : ℕ) → weightsOf (taken p .transitions) ≡ D → stopsAfter D m p (taken p) ≡ []
   no-stop m p e = rw (le-ltb (weightsOf (taken p .transitions)) D (omega arith))

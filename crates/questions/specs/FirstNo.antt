@@ -2,7 +2,7 @@
 -- Assumes nothing.
 use mathlib.Core.Path.{_≡_, refl, sym, ap, _∙_}
 use mathlib.Core.Bool.{Bool, true, false}
-use mathlib.Core.List.{List, [], _∷_, _++_}
+use mathlib.Core.List.{List, [], _∷_, _++_, map}
 use Prim.Native.Nat.{ℕ, zero, suc, _+_, _<_}
 use native.Mathlib.Omega.{arith}
 use Rattle.model.specs.Questions.{Question, firstNo, andThen}
@@ -40,6 +40,19 @@ module _ {A : Type 0} (x : A) where
       go : (b : Bool) → q .asks x ≡ b → (firstNo qs x ≡ 0 → AllYes qs x) → (q .asks x ≡ true) × AllYes qs x
       go true a ih = (a, ih (sym (passes q qs a) ∙ e))
       go false a ih = absurd (omega (arith, h .0, fails q qs a))
+
+  -- questions of the same numbers that get the same answers, asked otherwise
+  abbrev pub Alike : (Question A → Question A) → List (Question A) → Type 0
+  Alike f [] = Unit {0}
+  Alike f (q ∷ qs) = (f q .number ≡ q .number) × (f q .asks x ≡ q .asks x) × Alike f qs
+
+  pub answers-same : (f : Question A → Question A) (qs : List (Question A)) → Alike f qs → firstNo (map f qs) x ≡ firstNo qs x
+  answers-same f [] h = refl
+  answers-same f (q ∷ qs) h = go (q .asks x) refl (answers-same f qs (h .2))
+    where
+      go : (b : Bool) → q .asks x ≡ b → firstNo (map f qs) x ≡ firstNo qs x → firstNo (f q ∷ map f qs) x ≡ firstNo (q ∷ qs) x
+      go true a ih = passes (f q) (map f qs) (h .1 ∙ a) ∙ ih ∙ sym (passes q qs a)
+      go false a ih = fails (f q) (map f qs) (h .1 ∙ a) ∙ h .0 ∙ sym (fails q qs a)
 
   -- one list of questions after another
   pub after : (qs rs : List (Question A)) → Numbered qs → firstNo (qs ++ rs) x ≡ andThen (firstNo qs x) (firstNo rs x)
