@@ -54,6 +54,9 @@ module _ (ws : Words) where
   unfolding action
   action-is p c l k = rw (lt-ltb p (stateCount ws) l, lt-ltb c (actionCount ws p) k)
 
+  pub action-none : (p c : ℕ) → (p < stateCount ws → c < actionCount ws p → ⊥) → action ws p c ≡ noAction
+  action-none p c n = by-action (λ (a : Action). a ≡ noAction) p c refl (λ l k. absurd (n l k))
+
   -- what holds of each transition below line j holds of every transition of the action whose first line it is
   every-read : (P : Transition → Type 0) (n j : ℕ) → ((i : ℕ) → i < branches ws j → P (transitionAt ws n (j + 1 + i)))
       → Every P (readAction ws n j .transitions)

@@ -46,11 +46,28 @@ module _ {A : Type 0} where
   count-none test [] h = refl
   count-none test (x ∷ xs) h = rw (h x (inl refl)) (omega (arith, count-none test xs (λ y i. h y (inr i))))
 
+  -- a test that follows from another is passed by no fewer
+  pub count-imp : (test other : A → Bool) (xs : List A) → ((x : A) → In x xs → T (test x) → T (other x)) → count test xs ≤ count other xs
+  count-imp test other [] h = omega arith
+  count-imp test other (x ∷ xs) h = go (test x) (other x) (h x (inl refl)) (count-imp test other xs (λ y i. h y (inr i)))
+    where
+      go : (a b : Bool) → (T a → T b) → count test xs ≤ count other xs → bit a + count test xs ≤ bit b + count other xs
+      go true true k ih = omega arith
+      go true false k ih = absurd (k tt)
+      go false true k ih = omega arith
+      go false false k ih = omega arith
+
 module _ {A B : Type 0} where
   pub map-at : (f : A → B) (s : List A) (j : ℕ) (x : A) → getElem? s j ≡ some x → getElem? (map f s) j ≡ some (f x)
   map-at f [] j x e = let z : _≡_ {A = ℕ} 0 1 = cc in absurd (omega arith)
   map-at f (y ∷ ys) zero x e = let q : y ≡ x = cc in rw q
   map-at f (y ∷ ys) (suc j) x e = map-at f ys j x e
+
+  -- an entry of the list that f maps to is f of the entry
+  pub at-map : (f : A → B) (s : List A) (j : ℕ) (y : B) → getElem? (map f s) j ≡ some y → (x : A) × (getElem? s j ≡ some x) × (y ≡ f x)
+  at-map f [] j y e = let z : _≡_ {A = ℕ} 0 1 = cc in absurd (omega arith)
+  at-map f (x ∷ xs) zero y e = (x, refl, cc)
+  at-map f (x ∷ xs) (suc j) y e = at-map f xs j y e
 
 module _ {A : Type 0} (lt : A → A → Bool) (S : Strict lt) (xs : List A) (a : Apart xs) (t : Total lt xs) where
   abbrev rankOf : A → ℕ

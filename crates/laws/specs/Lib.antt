@@ -2,10 +2,12 @@ pub mod Int
 pub mod Members
 pub mod Sorting
 pub mod Paths
+pub mod Raises
 pub mod Bounds
 pub mod ToGo
 pub mod Best
 pub mod Policies
+pub mod Ranks
 pub mod Order
 pub mod Greedy
 pub mod First

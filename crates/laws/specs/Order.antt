@@ -18,6 +18,7 @@ use Rattle.model.specs.Order.{lower, before}
 use Rattle.laws.specs.Int.{<→≤, ints, leZ-no, lt-in, le-in}
 use Rattle.laws.specs.Members.{T-true, true-T, false-T, In}
 use Rattle.laws.specs.Sorting.{Strict, Total}
+use Rattle.laws.specs.Ranks.{ByCost}
 use Rattle.laws.specs.Policies.{in-policy, policy-length}
 
 -- ---- the order of the bytes
@@ -110,6 +111,14 @@ module _ (cost : Policy → ℤ) where
       go : Before x y → cost x ≤ℤ cost y
       go (inl h) = <→≤ h
       go (inr h) = h .0
+
+  -- so the order is one by cost
+  pub by-cost : ByCost (before cost) cost
+  by-cost = record { ahead = λ x y h. before-cost x y (true-T h); behind = λ x y h. behind x y (ltZ (cost x) (cost y)) refl h }
+    where
+      behind : (x y : Policy) (b : Bool) → ltZ (cost x) (cost y) ≡ b → (b || (not (ltZ (cost y) (cost x)) && lower x y)) ≡ false → cost y ≤ℤ cost x
+      behind x y true e h = let z : _≡_ {A = ℕ} 0 1 = cc in absurd (omega arith)
+      behind x y false e h = ltZ-no (false-T e)
 
   before-trans : (x y z : Policy) → Before x y → Before y z → Before x z
   before-trans x y z (inl h) (inl k) = inl (omega (ints, lt-in))

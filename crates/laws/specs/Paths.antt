@@ -59,7 +59,7 @@ no-step : (e : ℕ) (c : ℤ) → pos 0 ≡ pos (0 * e) *ℤ c
 no-step e c = rw (is c) (simp ring (dif-eq _ _ _ _ (omega arith)))
 
 module _ (D m p : ℕ) (a : Action) where
-  abbrev stop : Path
+  abbrev pub stop : Path
   stop = record { state = p; cost = a .cost; weight = missing D a * D ^ m } ∷ []
 
   none-missing : ltb (weightsOf (a .transitions)) D ≡ false → missing D a ≡ 0
@@ -79,7 +79,7 @@ module _ (D m p : ℕ) (a : Action) where
       go true e = one-step (missing D a * D ^ m) (a .cost)
       go false e = rw (none-missing e) (no-step (D ^ m) (a .cost))
 
-  stop-ends : (x : Path) → In x (stopsAfter D m p a) → (x ≡ stop) × (weightsOf (a .transitions) < D)
+  pub stop-ends : (x : Path) → In x (stopsAfter D m p a) → (x ≡ stop) × (weightsOf (a .transitions) < D)
   stop-ends x = go (ltb (weightsOf (a .transitions)) D) refl
     where
       go : (b : Bool) → ltb (weightsOf (a .transitions)) D ≡ b → In x (cond b (stop ∷ []) []) → (x ≡ stop) × (weightsOf (a .transitions) < D)
@@ -123,7 +123,7 @@ stepBy taken p t = record { state = p; cost = taken p .cost; weight = t .weight 
 
 module _ (D : ℕ) (taken : ℕ → Action) where
   -- the paths from state p that begin with transition t
-  abbrev pathsBy : ℕ → ℕ → Transition → List Path
+  abbrev pub pathsBy : ℕ → ℕ → Transition → List Path
   pathsBy m p t = map (λ (x : Path). stepBy taken p t ∷ x) (pathsFrom D taken m (t .next))
 
   module _ (small : (p : ℕ) → weightsOf (taken p .transitions) ≤ D) where
@@ -168,12 +168,12 @@ module _ (D : ℕ) (taken : ℕ → Action) where
         (all-parts (weightsOf (taken p .transitions)) D m (small p))
 
   -- a path from state p begins with the step of a transition, or stops there
-  abbrev Begins : ℕ → ℕ → Path → Type 0
+  abbrev pub Begins : ℕ → ℕ → Path → Type 0
   Begins m p x =
       ((t : Transition) × In t (taken p .transitions) × ((y : Path) × (x ≡ stepBy taken p t ∷ y) × In y (pathsFrom D taken m (t .next))))
       ⊎ In x (stopsAfter D m p (taken p))
 
-  begins : (m p : ℕ) (x : Path) → In x (pathsFrom D taken (suc m) p) → Begins m p x
+  pub begins : (m p : ℕ) (x : Path) → In x (pathsFrom D taken (suc m) p) → Begins m p x
   begins m p x i = go (in-++ x (forEach (pathsBy m p) (taken p .transitions)) (stopsAfter D m p (taken p)) i)
     where
       go : In x (forEach (pathsBy m p) (taken p .transitions)) ⊎ In x (stopsAfter D m p (taken p)) → Begins m p x

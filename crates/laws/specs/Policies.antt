@@ -2,10 +2,10 @@
 -- `fits` and the enumeration `policiesFrom` agree on what a policy is; no policy is enumerated twice; and two policies that differ do so first at a
 -- state that both reach.
 -- Assumes nothing.
-use mathlib.Core.Path.{_≡_, refl, sym, ap, ap₂, _∙_, subst}
+use mathlib.Core.Path.{_≡_, refl, sym, ap, ap₂, _∙_, subst, fun-ext}
 use mathlib.Core.Bool.{Bool, true, false}
 use mathlib.Core.Logic.{_⊎_, inl, inr, _↔_}
-use mathlib.Core.List.{List, [], _∷_, map, head-eq-of-cons-eq, tail-eq-of-cons-eq}
+use mathlib.Core.List.{List, [], _∷_, _++_, map, head-eq-of-cons-eq, tail-eq-of-cons-eq}
 use Prim.Native.Nat.{ℕ, zero, suc, _+_, _≤_, _<_}
 use native.Mathlib.Nat.{eq-or-lt-of-le, add-zero, add-suc, suc-add}
 use native.Mathlib.Decide.{ℕ-discrete}
@@ -13,7 +13,7 @@ use native.Mathlib.Omega.{arith}
 use lib.Dec.{T}
 use lib.ListN.{length}
 use Rattle.model.specs.Lists.{isIn, forEach}
-use Rattle.model.specs.Model.{Action}
+use Rattle.model.specs.Model.{Transition, Action}
 use Rattle.model.specs.Policy.{Policy, nexts, allowed, onward, fits, policiesFrom}
 use Rattle.model.specs.Path.{byteAt}
 use Rattle.laws.specs.Members.{T-true, true-T, and-T, T-and, In, in-one, in-++, ++-in, in-forEach, forEach-in, in-map, map-in, isIn-in, in-isIn}
@@ -71,6 +71,18 @@ module _ (act : ℕ → ℕ → Action) (opts : ℕ → List ℕ) where
       let f = in-forEach (beginWith (rest n p reach)) bs (allowed (opts p) (isIn p reach)) i in
       let g = in-map (λ (cs : Policy). f .0 ∷ cs) bs (rest n p reach (f .0)) (f .2) in
       subst (IsPolicy (suc n) p reach) (sym (g .1)) (f .1, in-policy n (suc p) (onward act p (f .0) reach) (g .0) (g .2))
+
+-- ---- the policies rest on the options and the transitions, and not on the costs
+
+module _ (act other : ℕ → ℕ → Action) (transitions : (p c : ℕ) → other p c .transitions ≡ act p c .transitions) (opts others : ℕ → List ℕ) where
+  pub policies-same : (n p : ℕ) (reach : List ℕ) → ((q : ℕ) → q < p + n → others q ≡ opts q)
+      → policiesFrom other others n p reach ≡ policiesFrom act opts n p reach
+  policies-same zero p reach h = refl
+  policies-same (suc n) p reach h =
+      ap₂ (λ (g : ℕ → List Policy) (os : List ℕ). forEach (beginWith g) (allowed os (isIn p reach)))
+      (fun-ext (λ b. ap (λ (ts : List Transition). policiesFrom other others n (suc p) (nexts ts ++ reach)) (transitions p b)
+      ∙ policies-same n (suc p) (onward act p b reach) (λ q l. h q (omega arith))))
+      (h p (omega arith))
 
 -- ---- no policy is enumerated twice
 

@@ -29,7 +29,7 @@ module _ {A : Type 0} where
   apart-take (suc K) (x ∷ xs) a = (λ i. a .0 (in-take K x xs i), apart-take K xs (a .1))
 
   -- entry j of the first K is entry j of the list, and j is less than K
-  take-at : (K : ℕ) (s : List A) (j : ℕ) (x : A) → getElem? (take K s) j ≡ some x → (j < K) × (getElem? s j ≡ some x)
+  pub take-at : (K : ℕ) (s : List A) (j : ℕ) (x : A) → getElem? (take K s) j ≡ some x → (j < K) × (getElem? s j ≡ some x)
   take-at zero s j x e = let z : _≡_ {A = ℕ} 0 1 = cc in absurd (omega arith)
   take-at (suc K) [] j x e = let z : _≡_ {A = ℕ} 0 1 = cc in absurd (omega arith)
   take-at (suc K) (y ∷ ys) zero x e = (omega arith, e)
@@ -51,7 +51,7 @@ module _ {A : Type 0} where
 
 module _ {A : Type 0} (lt : A → A → Bool) where
   -- what holds of both results of one comparison holds after an insertion
-  by-test : (P : List A → Type 0) (a b : A) (bs : List A) → (lt a b ≡ true → P (a ∷ (b ∷ bs))) → (lt a b ≡ false → P (b ∷ insert lt a bs))
+  pub by-test : (P : List A → Type 0) (a b : A) (bs : List A) → (lt a b ≡ true → P (a ∷ (b ∷ bs))) → (lt a b ≡ false → P (b ∷ insert lt a bs))
       → P (insert lt a (b ∷ bs))
   by-test P a b bs yes-case no-case = go (lt a b) refl
     where
@@ -100,7 +100,7 @@ module _ {A : Type 0} (lt : A → A → Bool) where
       go (inr (inl e)) ih = inl e
       go (inr (inr i)) ih = inr (ih (inr i))
 
-  every-insert : (P : A → Type 0) (a : A) (s : List A) → P a → Every P s → Every P (insert lt a s)
+  pub every-insert : (P : A → Type 0) (a : A) (s : List A) → P a → Every P s → Every P (insert lt a s)
   every-insert P a s h k = in-every P (insert lt a s) (λ x i. go x (in-insert x a s i))
     where
       go : (x : A) → (x ≡ a) ⊎ In x s → P x

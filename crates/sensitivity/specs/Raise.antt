@@ -1,0 +1,35 @@
+-- Request 2.2, "What a slower leg can do": the book with one cost raised, the days that the raise counts on, and the costs of a record as its reader
+-- has them. No contract cites these definitions.
+-- Assumes nothing.
+use Prim.Native.Nat.{ℕ, _+_, _*_, _-_}
+use mathlib.Core.Bool.{cond}
+use mathlib.Core.List.{List}
+use lib.IntN.{ℤ, pos, negsuc, _+ℤ_}
+use lib.Dec.{eqb, ltb}
+use lib.ListN.{take, drop, set}
+use Rattle.model.specs.Bytes.{fromBytes}
+use Rattle.model.specs.Model.{Words, word, horizon, lineCount, stateCount, actionLine}
+use Rattle.model.specs.Policy.{Policy}
+use Rattle.model.specs.Path.{byteAt, paths}
+use Rattle.model.specs.Record.{listStart}
+use Rattle.laws.specs.Raises.{weightPast}
+
+-- "A choice's first line holds r (left) and its cost in seconds (right).": the index of the word that is the cost of action c of state p
+unfoldable pub costIndex : Words → ℕ → ℕ → ℕ
+costIndex ws p c = 4 + horizon ws + stateCount ws + lineCount ws + actionLine ws p c
+
+-- "when one cost of a book is raised by d seconds, d at least 0": that of action c of state p. Every other word is as it was
+unfoldable pub raised : Words → ℕ → ℕ → ℕ → Words
+raised ws p c d = set ws (costIndex ws p c) (word ws (costIndex ws p c) +ℤ pos d)
+
+-- the weight of a policy's paths on which it takes action c at state p
+unfoldable pub weightThrough : Words → Policy → ℕ → ℕ → ℕ
+weightThrough ws bs p c = cond (eqb (byteAt bs p) c) (weightPast p (paths ws bs)) 0
+
+-- "costs of eight bytes, two's complement, low byte first": the number x of eight bytes as a signed one
+abbrev pub signed64 : ℕ → ℤ
+signed64 x = cond (ltb x 9223372036854775808) (pos x) (negsuc (18446744073709551615 - x))
+
+-- the cost of plan j as a record has it
+unfoldable pub filedCost : List ℕ → ℕ → ℤ
+filedCost bs j = signed64 (fromBytes (take 8 (drop (listStart bs + j * 8) bs)))
