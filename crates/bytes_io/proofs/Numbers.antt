@@ -126,11 +126,16 @@ complement-bytes n (negsuc x) l h =
     let e : 18446744073709551615 - x ≡ 256 ^ n - suc x + 256 ^ n * q = omega (arith, all, ap (λ (m : ℕ). 256 ^ n * m) p, mul-suc (256 ^ n) q) in
     ap (bytes n) e ∙ bytes-low n (256 ^ n - suc x) q
 
+-- what n bytes hold in two's complement reads back, where the numbers from `half` on are those below 0
+pub read-half : (n half : ℕ) → 256 ^ n ≡ 2 * half → (z : ℤ) → mag z < half
+    → cond (ltb (fromBytes (signedBytes n z)) half) (pos (fromBytes (signedBytes n z))) (negsuc (2 * half - 1 - fromBytes (signedBytes n z))) ≡ z
+read-half n half e (pos x) h = rw (read-bytes n x (omega arith), lt-ltb x half h)
+read-half n half e (negsuc x) h =
+    let k : 2 * half - 1 - (256 ^ n - suc x) ≡ x = omega arith in
+    rw (read-bytes n (256 ^ n - suc x) (omega arith), le-ltb (256 ^ n - suc x) half (omega arith), k)
+
 pub read-signed : (z : ℤ) → mag z < 2 ^ 31 → signed (fromBytes (signedBytes 4 z)) ≡ z
-read-signed (pos x) h = rw (read-bytes 4 x (omega arith), lt-ltb x 2147483648 h)
-read-signed (negsuc x) h =
-    let e : 4294967295 - (256 ^ 4 - suc x) ≡ x = omega arith in
-    rw (read-bytes 4 (256 ^ 4 - suc x) (omega arith), le-ltb (256 ^ 4 - suc x) 2147483648 (omega arith), e)
+read-signed z h = read-half 4 2147483648 refl z h
 
 pub signed-read : (bs : List ℕ) → length bs ≡ 4 → Bytes bs → signedBytes 4 (signed (fromBytes bs)) ≡ bs
 signed-read bs e h = go (ltb (fromBytes bs) 2147483648) ∙ bytes-read 4 bs e h

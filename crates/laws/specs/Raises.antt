@@ -8,7 +8,7 @@ use mathlib.Core.Logic.{inl, inr}
 use mathlib.Core.List.{List, [], _∷_, _++_, map, map-append}
 use Prim.Native.Nat.{ℕ, zero, suc, _+_, _*_, _^_, _≤_, _<_}
 use native.Mathlib.Omega.{arith}
-use borrow.Author.Tests.{eqb-true, ne-eqb}
+use borrow.Author.Tests.{eqb-true, eq-eqb, ne-eqb}
 use lib.Dec.{eqb, ltb}
 use lib.IntN.{ℤ, pos, _+ℤ_, _*ℤ_}
 use Rattle.model.specs.Lists.{bit, forEach}
@@ -115,6 +115,27 @@ past-most r (x ∷ xs) = go (passes r x) (past-most r xs)
     go : (b : Bool) → weightPast r xs ≤ totalWeight xs → bit b * pathWeight x + weightPast r xs ≤ pathWeight x + totalWeight xs
     go true h = omega arith
     go false h = omega arith
+
+-- and as much where all pass it
+past-all : (r : ℕ) (xs : List Path) → Every (λ (x : Path). passes r x ≡ true) xs → weightPast r xs ≡ totalWeight xs
+past-all r [] h = refl
+past-all r (x ∷ xs) h = rw (h .0, past-all r xs (h .1)) (omega arith)
+
+-- as all paths from a state do
+pub past-start : (D : ℕ) (taken : ℕ → Action) (m p : ℕ) → weightPast p (pathsFrom D taken m p) ≡ totalWeight (pathsFrom D taken m p)
+past-start D taken m p =
+    past-all p (pathsFrom D taken m p) (in-every (λ (x : Path). passes p x ≡ true) (pathsFrom D taken m p) (λ x i. starts m x i))
+  where
+    here : eqb p p ≡ true
+    here = eq-eqb p p refl
+
+    starts : (m : ℕ) (x : Path) → In x (pathsFrom D taken m p) → passes p x ≡ true
+    starts zero x i = rw (in-one i, here)
+    starts (suc m) x i = go (begins D taken m p x i)
+      where
+        go : Begins D taken m p x → passes p x ≡ true
+        go (inl b) = rw (b .2 .1, here)
+        go (inr j) = rw (stop-ends D m p (taken p) x j .0, here)
 
 -- the states of a path rise, from state p on
 abbrev Climbs : ℕ → Path → Type 0

@@ -10,10 +10,12 @@ use lib.Seq.{length-take-le, take-add}
 use Rattle.model.specs.Lists.{forEach}
 use Rattle.model.specs.Bytes.{bytes, signedBytes, fromBytes, wordsOf}
 use Rattle.model.specs.Model.{Words}
-use Rattle.model.specs.Record.{carriedLength, carriedK, carriedCount, carriedBook}
+use Rattle.model.specs.Questions.{bookNumber}
+use Rattle.model.specs.Order.{ranking}
+use Rattle.model.specs.Record.{listBytes, recordBytes, carriedLength, carriedK, carriedCount, carriedBook}
 use Rattle.laws.specs.Members.{Every}
 use Rattle.bytes_io.proofs.Numbers.{Bytes, bytes-take, bytes-drop, length-words, read-bytes, bytes-read, signed-read, read-words}
-use Rattle.record.specs.Lengths.{headBytes}
+use Rattle.record.specs.Lengths.{headBytes, record-is, book-length, count-most}
 use Rattle.record.specs.Passed.{RecordHead}
 
 -- ---- from what was written
@@ -34,6 +36,16 @@ module _ (ws : Words) (k n : ℕ) (rest : List ℕ) where
   pub book-back : length ws < 2 ^ 32 → Every (λ z. mag z < 2 ^ 31) ws → carriedBook (headBytes ws k n ++ rest) ≡ ws
   unfolding carriedBook
   book-back h e = read-words (carriedLength (headBytes ws k n ++ rest)) ws rest (sym (length-back h)) e
+
+-- of the record of an accepted book
+module _ (ws : Words) (ok : bookNumber ws ≡ 0) (k : ℕ) where
+  pub length-written : carriedLength (recordBytes ws k) ≡ length ws
+  length-written =
+      ap carriedLength (record-is ws k) ∙ length-back ws k (length (ranking ws k)) (listBytes ws k) (omega (arith, book-length ws ok))
+
+  pub count-written : k ≤ 64 → carriedCount (recordBytes ws k) ≡ length (ranking ws k)
+  count-written h =
+      ap carriedCount (record-is ws k) ∙ count-back ws k (length (ranking ws k)) (listBytes ws k) (omega (arith, count-most ws k ok))
 
 -- ---- from what is carried
 

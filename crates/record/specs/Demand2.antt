@@ -15,7 +15,7 @@ use Rattle.model.specs.Record.{listBytes, recordBytes, carriedLength, carriedK,
 use Rattle.laws.specs.Members.{Every}
 use Rattle.record.specs.Lengths.{headBytes, head-length, record-is, record-length, book-length, count-most, count-some}
 use Rattle.record.specs.Passed.{AcceptedRecord, accept-says, accept-passed}
-use Rattle.record.specs.Carried.{k-back, count-back, book-back, book-length-is, head-again}
+use Rattle.record.specs.Carried.{k-back, count-written, book-back, book-length-is, head-again}
 
 -- an accepted record is the one written for what it carries
 accepted-written : (bs : List ℕ) → Every (λ b. b < 256) bs → AcceptedRecord bs → bs ≡ recordBytes (carriedBook bs) (carriedK bs)
@@ -42,7 +42,7 @@ module _ (bs : List ℕ) (ok : bookNumber (carriedBook bs) ≡ 0) (low : 1 ≤ c
   parts = e ∙ record-is ws k
 
   count : carriedCount bs ≡ n
-  count = ap carriedCount parts ∙ count-back ws k n (listBytes ws k) (omega (arith, count-most ws k ok))
+  count = ap carriedCount e ∙ count-written ws ok k high
 
   long : length bs ≡ 12 + 4 * carriedLength bs + 8 * n + n * stateCount ws
   long = ap length e ∙ record-length ws k ok ∙ ap (λ (w : ℕ). 12 + 4 * w + 8 * n + n * stateCount ws) (book-length-is bs)
@@ -84,7 +84,7 @@ pub record WrittenAccepted (ws : Words) (k : ℕ) : Type 0 where
 
 pub written-accepted : (ws : Words) → bookNumber ws ≡ 0 → Every (λ z. mag z < 2 ^ 31) ws → (k : ℕ) → 1 ≤ k → k ≤ 64 → WrittenAccepted ws k
 written-accepted ws ok words k low high =
-    record { number = number; book = book; asked = asked; count = count }
+    record { number = number; book = book; asked = asked; count = count-written ws ok k high }
   where
     n : ℕ
     n = length (ranking ws k)
@@ -97,9 +97,6 @@ written-accepted ws ok words k low high =
 
     asked : carriedK (recordBytes ws k) ≡ k
     asked = ap carriedK parts ∙ k-back ws k n (listBytes ws k) (omega arith)
-
-    count : carriedCount (recordBytes ws k) ≡ n
-    count = ap carriedCount parts ∙ count-back ws k n (listBytes ws k) (omega (arith, count-most ws k ok))
 
     number : acceptNumber (recordBytes ws k) ≡ 0
     number =

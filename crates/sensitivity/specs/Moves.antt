@@ -7,7 +7,7 @@ use mathlib.Core.List.{[], _∷_}
 use Prim.Native.Nat.{ℕ, _*_, _^_, _≤_, _<_}
 use native.Mathlib.Nat.{mul-le-mul-left}
 use native.Mathlib.Omega.{arith}
-use borrow.Author.Tests.{eqb-true, ne-eqb}
+use borrow.Author.Tests.{eqb-true, eq-eqb, ne-eqb}
 use lib.Dec.{T, eqb}
 use lib.IntN.{ℤ, pos, _+ℤ_, +ℤ-idr}
 use lib.Signed.{_≤ℤ_}
@@ -22,10 +22,10 @@ use Rattle.laws.specs.Members.{In}
 use Rattle.laws.specs.Ranks.{Moved, ranks-near}
 use Rattle.laws.specs.Order.{by-cost}
 use Rattle.laws.specs.Policies.{policies-same}
-use Rattle.laws.specs.Raises.{raise, weightPast, past-most, riseAt, one-raised}
+use Rattle.laws.specs.Raises.{raise, weightPast, past-most, past-start, riseAt, one-raised}
 use Rattle.accepted.specs.Shape.{shape}
 use Rattle.accepted.specs.Demands.{policies-are, weights-add}
-use Rattle.sensitivity.specs.Raise.{raised, weightThrough}
+use Rattle.sensitivity.specs.Raise.{raised, mostRise, weightThrough}
 use Rattle.sensitivity.specs.Same.{scale-same, horizon-same, states-same, options-same, action-raised}
 
 -- ---- two books with the same policies, each of which costs by the second as much as by the first, or at most e more
@@ -98,7 +98,7 @@ module _ (ws : Words) (ok : bookNumber ws ≡ 0) (p c d : ℕ) (state : p < stat
 
   -- so no policy's cost falls, and none rises by more than d × D^H
   pub cost-near : (bs : Policy) → T (isPolicy ws bs)
-      → (policyCost ws bs ≤ℤ policyCost (raised ws p c d) bs) × (policyCost (raised ws p c d) bs ≤ℤ (policyCost ws bs +ℤ pos (d * scale ws ^ horizon ws)))
+      → (policyCost ws bs ≤ℤ policyCost (raised ws p c d) bs) × (policyCost (raised ws p c d) bs ≤ℤ (policyCost ws bs +ℤ pos (mostRise ws d)))
   cost-near bs t = rw (cost-rises bs) (low (policyCost ws bs) (d * weightThrough ws bs p c), high)
     where
       low : (z : ℤ) (n : ℕ) → z ≤ℤ (z +ℤ pos n)
@@ -107,15 +107,26 @@ module _ (ws : Words) (ok : bookNumber ws ≡ 0) (p c d : ℕ) (state : p < stat
       add : (z : ℤ) (m n : ℕ) → m ≤ n → (z +ℤ pos m) ≤ℤ (z +ℤ pos n)
       add z m n l = omega (ints, le-in, sum-is z (pos m), sum-is z (pos n))
 
-      high : (policyCost ws bs +ℤ pos (d * weightThrough ws bs p c)) ≤ℤ (policyCost ws bs +ℤ pos (d * scale ws ^ horizon ws))
-      high = add (policyCost ws bs) (d * weightThrough ws bs p c) (d * scale ws ^ horizon ws) (mul-le-mul-left d (through-most bs t))
+      high : (policyCost ws bs +ℤ pos (d * weightThrough ws bs p c)) ≤ℤ (policyCost ws bs +ℤ pos (mostRise ws d))
+      high = add (policyCost ws bs) (d * weightThrough ws bs p c) (mostRise ws d) (mul-le-mul-left d (through-most bs t))
 
   module _ (K : ℕ) where
     -- "the cost at each rank doesn't fall and rises by at most d × D^H"
-    pub costs-move : Moved (d * scale ws ^ horizon ws) (rankingCosts ws K) (rankingCosts (raised ws p c d) K)
-    costs-move = lists-near ws us (d * scale ws ^ horizon ws) same-policies (λ bs i. cost-near bs (policies-are ws ok bs .0 i)) K
+    pub costs-move : Moved (mostRise ws d) (rankingCosts ws K) (rankingCosts (raised ws p c d) K)
+    costs-move = lists-near ws us (mostRise ws d) same-policies (λ bs i. cost-near bs (policies-are ws ok bs .0 i)) K
 
     -- "the two lists have equal length"
     pub lengths-same : length (ranking (raised ws p c d) K) ≡ length (ranking ws K)
     unfolding rankingCosts
     lengths-same = sym (length-map (ranking us K) (policyCost us)) ∙ costs-move .long ∙ length-map (ranking ws K) (policyCost ws)
+
+-- ---- no lower bound would do
+
+-- every day of a plan begins at post 0: the cost of one that makes the raised choice there rises by d × D^H
+pub bound-met : (ws : Words) → bookNumber ws ≡ 0 → (c d : ℕ) → c < actionCount ws 0 → (bs : Policy) → T (isPolicy ws bs) → byteAt bs 0 ≡ c
+    → policyCost (raised ws 0 c d) bs ≡ policyCost ws bs +ℤ pos (mostRise ws d)
+unfolding weightThrough paths
+bound-met ws ok c d choice bs t e =
+    cost-rises ws ok 0 c d (shape ws ok .some-state) choice bs
+    ∙ ap (λ (n : ℕ). policyCost ws bs +ℤ pos (d * n))
+    (rw (eq-eqb (byteAt bs 0) c e) (past-start (scale ws) (taken ws bs) (horizon ws) 0 ∙ weights-add ws ok bs t))

@@ -1,14 +1,14 @@
 -- Request 2.2, "What a slower leg can do": the book with one cost raised, the days that the raise counts on, and the costs of a record as its reader
 -- has them. No contract cites these definitions.
 -- Assumes nothing.
-use Prim.Native.Nat.{ℕ, _+_, _*_, _-_}
+use Prim.Native.Nat.{ℕ, _+_, _*_, _-_, _^_}
 use mathlib.Core.Bool.{cond}
 use mathlib.Core.List.{List}
 use lib.IntN.{ℤ, pos, negsuc, _+ℤ_}
 use lib.Dec.{eqb, ltb}
 use lib.ListN.{take, drop, set}
 use Rattle.model.specs.Bytes.{fromBytes}
-use Rattle.model.specs.Model.{Words, word, horizon, lineCount, stateCount, actionLine}
+use Rattle.model.specs.Model.{Words, word, scale, horizon, lineCount, stateCount, actionLine}
 use Rattle.model.specs.Policy.{Policy}
 use Rattle.model.specs.Path.{byteAt, paths}
 use Rattle.model.specs.Record.{listStart}
@@ -22,13 +22,20 @@ costIndex ws p c = 4 + horizon ws + stateCount ws + lineCount ws + actionLine ws
 unfoldable pub raised : Words → ℕ → ℕ → ℕ → Words
 raised ws p c d = set ws (costIndex ws p c) (word ws (costIndex ws p c) +ℤ pos d)
 
+-- "rises by at most d × D^H"
+abbrev pub mostRise : Words → ℕ → ℕ
+mostRise ws d = d * scale ws ^ horizon ws
+
 -- the weight of a policy's paths on which it takes action c at state p
 unfoldable pub weightThrough : Words → Policy → ℕ → ℕ → ℕ
 weightThrough ws bs p c = cond (eqb (byteAt bs p) c) (weightPast p (paths ws bs)) 0
 
--- "costs of eight bytes, two's complement, low byte first": the number x of eight bytes as a signed one
+-- "costs of eight bytes, two's complement, low byte first": the number x of eight bytes as a signed one, which is below 0 from 2^63 on
+abbrev pub negativeFrom : ℕ
+negativeFrom = 9223372036854775808
+
 abbrev pub signed64 : ℕ → ℤ
-signed64 x = cond (ltb x 9223372036854775808) (pos x) (negsuc (18446744073709551615 - x))
+signed64 x = cond (ltb x negativeFrom) (pos x) (negsuc (18446744073709551615 - x))
 
 -- the cost of plan j as a record has it
 unfoldable pub filedCost : List ℕ → ℕ → ℤ

@@ -1,31 +1,29 @@
 -- The same of two written records, by the bytes that their reader has: k, and the eight bytes of the cost at each rank.
 -- Assumes nothing.
-use mathlib.Core.Path.{_≡_, sym, ap, ap₂, _∙_, subst}
+use mathlib.Core.Path.{_≡_, refl, sym, ap, ap₂, _∙_, subst}
 use mathlib.Core.List.{List}
 use mathlib.Core.Option.{some}
-use Prim.Native.Nat.{ℕ, suc, _+_, _*_, _-_, _^_, _≤_, _<_}
+use Prim.Native.Nat.{ℕ, _+_, _*_, _≤_, _<_}
 use native.Mathlib.Omega.{arith}
-use borrow.Author.Tests.{lt-ltb, le-ltb}
 use lib.IntN.{ℤ, pos, negsuc, natAbs, _+ℤ_}
-use lib.Signed.{_≤ℤ_}
-use lib.ListN.{length, getElem?, take, drop}
-use Rattle.model.specs.Bytes.{signedBytes, fromBytes}
-use Rattle.model.specs.Model.{Words, scale, horizon, stateCount, actionCount}
+use lib.Signed.{_≤ℤ_, mag}
+use lib.ListN.{getElem?, take, drop}
+use Rattle.model.specs.Bytes.{fromBytes}
+use Rattle.model.specs.Model.{Words, stateCount, actionCount}
 use Rattle.model.specs.Questions.{bookNumber}
 use Rattle.model.specs.Policy.{Policy}
 use Rattle.model.specs.Path.{policyCost}
 use Rattle.model.specs.Order.{ranking}
-use Rattle.model.specs.Record.{listBytes, recordBytes, carriedLength, carriedK, carriedCount, carriedBook, listStart, acceptNumber}
+use Rattle.model.specs.Record.{recordBytes, carriedK, carriedCount, carriedBook, listStart, acceptNumber}
 use Rattle.laws.specs.Members.{Every}
 use Rattle.laws.specs.Sorting.{at-in}
 use Rattle.laws.specs.Entries.{some-at}
 use Rattle.accepted.specs.Demands.{in-list, costs-are, cost-fits}
-use Rattle.bytes_io.proofs.Numbers.{read-bytes}
-use Rattle.record.specs.Lengths.{record-is, book-length, count-most}
-use Rattle.record.specs.Carried.{length-back, count-back}
+use Rattle.bytes_io.proofs.Numbers.{read-half}
+use Rattle.record.specs.Carried.{length-written, count-written}
 use Rattle.record.specs.Demand2.{accepted-exactly}
 use Rattle.record.specs.Demand3.{cost-bytes}
-use Rattle.sensitivity.specs.Raise.{raised, signed64, filedCost}
+use Rattle.sensitivity.specs.Raise.{raised, mostRise, negativeFrom, signed64, filedCost}
 use Rattle.sensitivity.specs.Moves.{costs-move, lengths-same}
 
 -- the second record lists as many plans as the first, and its cost at each rank is that of the first or at most e more
@@ -35,46 +33,36 @@ pub record RecordMoved (e : ℕ) (first second : List ℕ) : Type 0 where
 
 -- ---- the costs in a written record
 
-read-signed64 : (z : ℤ) → natAbs z ≤ 4000000000000000000 → signed64 (fromBytes (signedBytes 8 z)) ≡ z
-read-signed64 (pos x) h = rw (read-bytes 8 x (omega arith), lt-ltb x 9223372036854775808 (omega arith))
-read-signed64 (negsuc x) h =
-    let e : 18446744073709551615 - (256 ^ 8 - suc x) ≡ x = omega arith in
-    rw (read-bytes 8 (256 ^ 8 - suc x) (omega arith), le-ltb (256 ^ 8 - suc x) 9223372036854775808 (omega arith), e)
-
 module _ (ws : Words) (ok : bookNumber ws ≡ 0) (K : ℕ) where
-  length-filed : carriedLength (recordBytes ws K) ≡ length ws
-  length-filed =
-      ap carriedLength (record-is ws K) ∙ length-back ws K (length (ranking ws K)) (listBytes ws K) (omega (arith, book-length ws ok))
-
-  count-filed : K ≤ 64 → carriedCount (recordBytes ws K) ≡ length (ranking ws K)
-  count-filed h =
-      ap carriedCount (record-is ws K) ∙ count-back ws K (length (ranking ws K)) (listBytes ws K) (omega (arith, count-most ws K ok))
-
   -- the eight bytes of place j say the cost of plan j
   cost-filed : (j : ℕ) (bs : Policy) → getElem? (ranking ws K) j ≡ some bs → filedCost (recordBytes ws K) j ≡ policyCost ws bs
   unfolding filedCost listStart
   cost-filed j bs e =
-      ap (λ (n : ℕ). signed64 (fromBytes (take 8 (drop (12 + 4 * n + j * 8) (recordBytes ws K))))) length-filed
+      ap (λ (n : ℕ). signed64 (fromBytes (take 8 (drop (12 + 4 * n + j * 8) (recordBytes ws K))))) (length-written ws ok K)
       ∙ ap (λ (b : List ℕ). signed64 (fromBytes b)) (cost-bytes ws ok K j bs e)
-      ∙ read-signed64 (policyCost ws bs) (cost-fits ws ok bs (in-list ws ok K bs .0 (at-in (ranking ws K) j bs e) .0))
+      ∙ read-half 8 negativeFrom refl (policyCost ws bs) (small (policyCost ws bs) (cost-fits ws ok bs (in-list ws ok K bs .0 (at-in (ranking ws K) j bs e) .0)))
+    where
+      small : (z : ℤ) → natAbs z ≤ 4000000000000000000 → mag z < negativeFrom
+      small (pos n) h = omega arith
+      small (negsuc n) h = omega arith
 
 -- ---- two records
 
 module _ (ws : Words) (ok : bookNumber ws ≡ 0) (p c d : ℕ) (state : p < stateCount ws) (choice : c < actionCount ws p)
     (raised-ok : bookNumber (raised ws p c d) ≡ 0) where
   -- of the same K, for a book and the same with one cost raised
-  pub written-move : (K : ℕ) → K ≤ 64 → RecordMoved (d * scale ws ^ horizon ws) (recordBytes ws K) (recordBytes (raised ws p c d) K)
-  written-move K h = record { count = count-filed us raised-ok K h ∙ lengths-same ws ok p c d state choice K ∙ sym (count-filed ws ok K h); each = each }
+  pub written-move : (K : ℕ) → K ≤ 64 → RecordMoved (mostRise ws d) (recordBytes ws K) (recordBytes (raised ws p c d) K)
+  written-move K h = record { count = count-written us raised-ok K h ∙ lengths-same ws ok p c d state choice K ∙ sym (count-written ws ok K h); each = each }
     where
       us : Words
       us = raised ws p c d
 
       each : (j : ℕ) → j < carriedCount (recordBytes ws K)
           → (filedCost (recordBytes ws K) j ≤ℤ filedCost (recordBytes us K) j)
-          × (filedCost (recordBytes us K) j ≤ℤ (filedCost (recordBytes ws K) j +ℤ pos (d * scale ws ^ horizon ws)))
+          × (filedCost (recordBytes us K) j ≤ℤ (filedCost (recordBytes ws K) j +ℤ pos (mostRise ws d)))
       each j l =
-          let a = some-at (ranking ws K) j (omega (arith, count-filed ws ok K h)) in
-          let b = some-at (ranking us K) j (omega (arith, count-filed ws ok K h, lengths-same ws ok p c d state choice K)) in
+          let a = some-at (ranking ws K) j (omega (arith, count-written ws ok K h)) in
+          let b = some-at (ranking us K) j (omega (arith, count-written ws ok K h, lengths-same ws ok p c d state choice K)) in
           rw (cost-filed ws ok K j (a .0) (a .1), cost-filed us raised-ok K j (b .0) (b .1))
           (costs-move ws ok p c d state choice K .each j (policyCost ws (a .0)) (policyCost us (b .0)) (costs-are ws ok K j (a .0) (a .1))
           (costs-are us raised-ok K j (b .0) (b .1)))
@@ -83,7 +71,7 @@ module _ (ws : Words) (ok : bookNumber ws ≡ 0) (p c d : ℕ) (state : p < stat
 pub accepted-move : (first second : List ℕ) → Every (λ b. b < 256) first → Every (λ b. b < 256) second
     → acceptNumber first ≡ 0 → acceptNumber second ≡ 0 → carriedK second ≡ carriedK first
     → (p c d : ℕ) → p < stateCount (carriedBook first) → c < actionCount (carriedBook first) p → carriedBook second ≡ raised (carriedBook first) p c d
-    → RecordMoved (d * scale (carriedBook first) ^ horizon (carriedBook first)) first second
+    → RecordMoved (mostRise (carriedBook first) d) first second
 accepted-move first second fb sb fa sa k p c d state choice e =
     let f = accepted-exactly first fb .0 fa in
     let s = accepted-exactly second sb .0 sa in
@@ -92,4 +80,4 @@ accepted-move first second fb sb fa sa k p c d state choice e =
     (subst (RecordMoved most (recordBytes (carriedBook first) (carriedK first))) (sym (s .3 ∙ ap₂ recordBytes e k)) m)
   where
     most : ℕ
-    most = d * scale (carriedBook first) ^ horizon (carriedBook first)
+    most = mostRise (carriedBook first) d
