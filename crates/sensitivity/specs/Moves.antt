@@ -39,7 +39,7 @@ module _ (ws us : Words) (e : ℕ) (same : policies us ≡ policies ws)
 
 -- ---- a book and the same with one cost raised
 
-module _ (ws : Words) (ok : bookNumber ws ≡ 0) (p c d : ℕ) (state : p < stateCount ws) (choice : c < actionCount ws p) where
+module _ (ws : Words) (ok : bookNumber ws ≡ 0) (p c d : ℕ) (state : p < stateCount ws) (own : c < actionCount ws p) where
   abbrev us : Words
   us = raised ws p c d
 
@@ -48,7 +48,7 @@ module _ (ws : Words) (ok : bookNumber ws ≡ 0) (p c d : ℕ) (state : p < stat
   unfolding policies
   same-policies =
       rw (states-same ws p c d)
-      (policies-same (action ws) (action us) (λ q b. ap (λ (a : Action). a .transitions) (action-raised ws p c d ok state choice q b))
+      (policies-same (action ws) (action us) (λ q b. ap (λ (a : Action). a .transitions) (action-raised ws p c d ok state own q b))
       (options ws) (options us) (stateCount ws) 0 (0 ∷ []) (λ q l. options-same ws p c d q (omega arith)))
 
   -- how much more a policy's action at state p costs
@@ -58,13 +58,13 @@ module _ (ws : Words) (ok : bookNumber ws ≡ 0) (p c d : ℕ) (state : p < stat
   taken-raised : (bs : Policy) (q : ℕ) → taken us bs q ≡ raise (riseAt p (more bs) q) (taken ws bs q)
   unfolding taken
   taken-raised bs q =
-      action-raised ws p c d ok state choice q (byteAt bs q) ∙ ap (λ (n : ℕ). raise n (action ws q (byteAt bs q))) (go (eqb q p) refl)
+      action-raised ws p c d ok state own q (byteAt bs q) ∙ ap (λ (n : ℕ). raise n (action ws q (byteAt bs q))) (go (eqb q p) refl)
     where
       go : (t : Bool) → eqb q p ≡ t → cond (t && eqb (byteAt bs q) c) d 0 ≡ cond t (more bs) 0
       go true h = ap (λ (r : ℕ). cond (eqb (byteAt bs r) c) d 0) (eqb-true q p h)
       go false h = refl
 
-  -- a policy's cost rises by d × the weight of those of its days on which it makes the choice
+  -- a policy's cost rises by d × the weight of its paths on which it takes the action
   pub cost-rises : (bs : Policy) → policyCost (raised ws p c d) bs ≡ policyCost ws bs +ℤ pos (d * weightThrough ws bs p c)
   unfolding policyCost paths taken weightThrough
   cost-rises bs =
@@ -80,14 +80,14 @@ module _ (ws : Words) (ok : bookNumber ws ≡ 0) (p c d : ℕ) (state : p < stat
       go true = refl
       go false = omega arith
 
-  -- so the cost of one that does not make it stays
+  -- so the cost of one that does not take it stays
   pub cost-stays : (bs : Policy) → (byteAt bs p ≡ c → ⊥) → policyCost (raised ws p c d) bs ≡ policyCost ws bs
   unfolding weightThrough
   cost-stays bs n =
       let e : d * 0 ≡ 0 = omega arith in
       cost-rises bs ∙ rw (ne-eqb (byteAt bs p) c n, e) (+ℤ-idr (policyCost ws bs))
 
-  -- the weights of those days add to at most D^H
+  -- the weights of those paths add to at most D^H
   pub through-most : (bs : Policy) → T (isPolicy ws bs) → weightThrough ws bs p c ≤ scale ws ^ horizon ws
   unfolding weightThrough
   through-most bs t = go (eqb (byteAt bs p) c)
@@ -122,11 +122,11 @@ module _ (ws : Words) (ok : bookNumber ws ≡ 0) (p c d : ℕ) (state : p < stat
 
 -- ---- no lower bound would do
 
--- every day of a plan begins at post 0: the cost of one that makes the raised choice there rises by d × D^H
+-- every path begins at state 0: the cost of a policy that takes the raised action there rises by d × D^H
 pub bound-met : (ws : Words) → bookNumber ws ≡ 0 → (c d : ℕ) → c < actionCount ws 0 → (bs : Policy) → T (isPolicy ws bs) → byteAt bs 0 ≡ c
     → policyCost (raised ws 0 c d) bs ≡ policyCost ws bs +ℤ pos (mostRise ws d)
 unfolding weightThrough paths
-bound-met ws ok c d choice bs t e =
-    cost-rises ws ok 0 c d (shape ws ok .some-state) choice bs
+bound-met ws ok c d own bs t e =
+    cost-rises ws ok 0 c d (shape ws ok .some-state) own bs
     ∙ ap (λ (n : ℕ). policyCost ws bs +ℤ pos (d * n))
     (rw (eq-eqb (byteAt bs 0) c e) (past-start (scale ws) (taken ws bs) (horizon ws) 0 ∙ weights-add ws ok bs t))

@@ -1,5 +1,5 @@
--- Request 2.2, "What a slower leg can do": the book with one cost raised, the days that the raise counts on, and the costs of a record as its reader
--- has them. No contract cites these definitions.
+-- Request 2.2, "What a slower leg can do": the book with one cost raised, how far a cost may rise by it, the weight of a policy's paths through one action, and
+-- the costs of a record as its reader has them. No contract cites these definitions.
 -- Assumes nothing.
 use Prim.Native.Nat.{ℕ, _+_, _*_, _-_, _^_}
 use mathlib.Core.Bool.{cond}

@@ -48,11 +48,11 @@ module _ (ws : Words) (ok : bookNumber ws ≡ 0) (K : ℕ) where
 
 -- ---- two records
 
-module _ (ws : Words) (ok : bookNumber ws ≡ 0) (p c d : ℕ) (state : p < stateCount ws) (choice : c < actionCount ws p)
+module _ (ws : Words) (ok : bookNumber ws ≡ 0) (p c d : ℕ) (state : p < stateCount ws) (own : c < actionCount ws p)
     (raised-ok : bookNumber (raised ws p c d) ≡ 0) where
   -- of the same K, for a book and the same with one cost raised
   pub written-move : (K : ℕ) → K ≤ 64 → RecordMoved (mostRise ws d) (recordBytes ws K) (recordBytes (raised ws p c d) K)
-  written-move K h = record { count = count-written us raised-ok K h ∙ lengths-same ws ok p c d state choice K ∙ sym (count-written ws ok K h); each = each }
+  written-move K h = record { count = count-written us raised-ok K h ∙ lengths-same ws ok p c d state own K ∙ sym (count-written ws ok K h); each = each }
     where
       us : Words
       us = raised ws p c d
@@ -62,9 +62,9 @@ module _ (ws : Words) (ok : bookNumber ws ≡ 0) (p c d : ℕ) (state : p < stat
           × (filedCost (recordBytes us K) j ≤ℤ (filedCost (recordBytes ws K) j +ℤ pos (mostRise ws d)))
       each j l =
           let a = some-at (ranking ws K) j (omega (arith, count-written ws ok K h)) in
-          let b = some-at (ranking us K) j (omega (arith, count-written ws ok K h, lengths-same ws ok p c d state choice K)) in
+          let b = some-at (ranking us K) j (omega (arith, count-written ws ok K h, lengths-same ws ok p c d state own K)) in
           rw (cost-filed ws ok K j (a .0) (a .1), cost-filed us raised-ok K j (b .0) (b .1))
-          (costs-move ws ok p c d state choice K .each j (policyCost ws (a .0)) (policyCost us (b .0)) (costs-are ws ok K j (a .0) (a .1))
+          (costs-move ws ok p c d state own K .each j (policyCost ws (a .0)) (policyCost us (b .0)) (costs-are ws ok K j (a .0) (a .1))
           (costs-are us raised-ok K j (b .0) (b .1)))
 
 -- whatever records are accepted: of the same K, where the book of the second is that of the first with one cost raised
@@ -72,10 +72,10 @@ pub accepted-move : (first second : List ℕ) → Every (λ b. b < 256) first �
     → acceptNumber first ≡ 0 → acceptNumber second ≡ 0 → carriedK second ≡ carriedK first
     → (p c d : ℕ) → p < stateCount (carriedBook first) → c < actionCount (carriedBook first) p → carriedBook second ≡ raised (carriedBook first) p c d
     → RecordMoved (mostRise (carriedBook first) d) first second
-accepted-move first second fb sb fa sa k p c d state choice e =
+accepted-move first second fb sb fa sa k p c d state own e =
     let f = accepted-exactly first fb .0 fa in
     let s = accepted-exactly second sb .0 sa in
-    let m = written-move (carriedBook first) (f .0) p c d state choice (sym (ap bookNumber e) ∙ s .0) (carriedK first) (f .2) in
+    let m = written-move (carriedBook first) (f .0) p c d state own (sym (ap bookNumber e) ∙ s .0) (carriedK first) (f .2) in
     subst (λ (r : List ℕ). RecordMoved most r second) (sym (f .3))
     (subst (RecordMoved most (recordBytes (carriedBook first) (carriedK first))) (sym (s .3 ∙ ap₂ recordBytes e k)) m)
   where

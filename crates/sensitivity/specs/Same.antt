@@ -132,13 +132,13 @@ module _ (ws : Words) (p c d : ℕ) where
 
     -- ---- actions
 
-    module _ (pl : p < stateCount ws) (cl : c < actionCount ws p) where
+    module _ (state : p < stateCount ws) (own : c < actionCount ws p) where
       -- "raised by d seconds"
       pub raised-word : word (raised ws p c d) (costIndex ws p c) ≡ word ws (costIndex ws p c) +ℤ pos d
       unfolding raised word costIndex
       raised-word =
           getD-set-same ws (costIndex ws p c) (word ws (costIndex ws p c) +ℤ pos d) (pos 0)
-          (omega (arith, accepted ws ok .sizes .exact, line-inside ws ok p c pl cl))
+          (omega (arith, accepted ws ok .sizes .exact, line-inside ws ok p c state own))
 
       right-raised : right us (actionLine ws p c) ≡ right ws (actionLine ws p c) +ℤ pos d
       unfolding right costIndex
@@ -153,7 +153,7 @@ module _ (ws : Words) (p c d : ℕ) where
         cost-same = go (eqb q p) refl (eqb b c) refl
           where
             other : ((q ≡ p) × (b ≡ c) → ⊥) → right us j ≡ right ws j +ℤ pos 0
-            other n = right-other j (λ e. n (one-action ws q b p c j k cl (omega arith) (omega arith) e)) ∙ sym (+ℤ-idr (right ws j))
+            other n = right-other j (λ e. n (one-action ws q b p c j k own (omega arith) (omega arith) e)) ∙ sym (+ℤ-idr (right ws j))
 
             go : (s : Bool) → eqb q p ≡ s → (t : Bool) → eqb b c ≡ t → right us j ≡ right ws j +ℤ pos (cond (s && t) d 0)
             go true e true h =
@@ -179,7 +179,7 @@ module _ (ws : Words) (p c d : ℕ) where
             fit = accepted ws ok .lines-fit q b l k
 
             first : x ≡ actionLine ws p c → (q ≡ p) × (b ≡ c)
-            first e = one-action ws q b p c x k cl (omega (arith, between)) (omega (arith, between)) e
+            first e = one-action ws q b p c x k own (omega (arith, between)) (omega (arith, between)) e
 
         read-same : readAction us (stage us q) (actionLine us q b) ≡ raise (extra p c d q b) (readAction ws (stage ws q) (actionLine ws q b))
         unfolding readAction branches
@@ -205,7 +205,7 @@ module _ (ws : Words) (p c d : ℕ) where
             where
               zero-here : (s : Bool) → eqb q p ≡ s → (t : Bool) → eqb b c ≡ t → cond (s && t) d 0 ≡ 0
               zero-here true e true h =
-                  absurd (n (rw (eqb-true q p e) pl) (rw (eqb-true q p e, eqb-true b c h) cl))
+                  absurd (n (rw (eqb-true q p e) state) (rw (eqb-true q p e, eqb-true b c h) own))
               zero-here true e false h = refl
               zero-here false e t h = refl
 
