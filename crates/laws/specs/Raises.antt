@@ -25,18 +25,19 @@ raise d a = record { cost = a .cost +ℤ pos d; transitions = a .transitions }
 -- ---- paths with raised costs
 
 module _ (rise : ℕ → ℕ) where
-  abbrev raiseStep : Step → Step
+  -- a step and a path with what their states add
+  abbrev pub raiseStep : Step → Step
   raiseStep s = record { state = s .state; cost = s .cost +ℤ pos (rise (s .state)); weight = s .weight }
 
-  abbrev raisePath : Path → Path
+  abbrev pub raisePath : Path → Path
   raisePath x = map raiseStep x
 
   -- how much more a path costs, and the sum over paths of weight × that
-  abbrev pathRise : Path → ℕ
+  abbrev pub pathRise : Path → ℕ
   pathRise [] = 0
   pathRise (s ∷ ss) = rise (s .state) + pathRise ss
 
-  abbrev totalRise : List Path → ℕ
+  abbrev pub totalRise : List Path → ℕ
   totalRise [] = 0
   totalRise (x ∷ xs) = pathWeight x * pathRise x + totalRise xs
 
@@ -64,7 +65,8 @@ module _ (rise : ℕ → ℕ) where
   -- ---- they are the paths by the raised actions
 
   module _ (D : ℕ) (taken : ℕ → Action) where
-    abbrev raisedAll : ℕ → Action
+    -- the raised actions
+    abbrev pub raisedAll : ℕ → Action
     raisedAll q = raise (rise q) (taken q)
 
     front : (p : ℕ) (t : Transition) (xs : List Path)

@@ -25,7 +25,7 @@ use Rattle.accepted.specs.Shape.{action-is, action-none}
 use Rattle.sensitivity.specs.Raise.{costIndex, raised}
 use Rattle.sensitivity.specs.Lines.{one-action, line-inside}
 
--- by how much action b of state q costs more
+-- by how much action b of state q costs more in the raised book
 abbrev pub extra : ℕ → ℕ → ℕ → ℕ → ℕ → ℕ
 extra p c d q b = cond (eqb q p && eqb b c) d 0
 
