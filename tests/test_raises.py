@@ -1,11 +1,13 @@
 #!/usr/bin/env python3
 """Request 2.2: one cost of a random book is raised by d seconds, and both books go through the calls. The lists have equal length, and the cost at each rank
-does not fall and rises by at most d × D^H. The calls are those of the shared library of bindings/build.sh. Run: python3 tests/test_raises.py"""
+does not fall and rises by at most d × D^H. The calls are those of the shared library of bindings/build.sh. The example of docs/GUARANTEES.md is what
+target/bin/kbest prints. Run: python3 tests/test_raises.py"""
 
 import collections
 import os
 import random
 import re
+import subprocess
 import sys
 import unittest
 
@@ -23,6 +25,7 @@ Raise = collections.namedtuple('Raise', 'words post choice d')
 LARGE = [books.many, books.large, books.full, books.vast, books.stops_many, books.stops_large, books.stops_full, books.stops_vast]
 BOOKS = [(shape, 12) for shape in books.SHAPES] + [(shape, 2) for shape in LARGE]
 COUNTS = (1, 2, 3, 8, 63, 64)
+KBEST = os.path.join(HERE, '..', 'target', 'bin', 'kbest')
 
 
 def costs(book):
@@ -178,13 +181,29 @@ class Raises(unittest.TestCase):
 class Example(unittest.TestCase):
     """The worked example of docs/GUARANTEES.md."""
 
-    def test_pages(self):
+    def setUp(self):
         with open(os.path.join(HERE, '..', 'docs', 'GUARANTEES.md'), encoding='utf-8') as f:
-            text = re.search(r'^## What a slower leg can do\n(.*?)^## ', f.read(), re.M | re.S)[1]
-        pages = [re.sub('^    ', '', part, flags=re.M) for part in re.findall(r'(?<=\n\n)(?:    .*\n)+(?=\n)', text)]
-        changes = [(0, 0), *((int(c), int(d)) for c, d in re.findall(r'choice (\d) of post 0 by (\d)', text))]
-        self.assertGreater(len(changes), 1)
-        self.assertEqual(pages, [ref.page(little(3, 4) + book_bytes(raised(tours.book_a(), 0, c, d))).decode() for c, d in changes])
+            self.text = re.search(r'^## What a slower leg can do\n(.*?)^## ', f.read(), re.M | re.S)[1]
+        found = re.findall(r'choice (\d) of post 0 by (\d+) seconds, from (\d+) to (\d+)', self.text)
+        self.changes = [tuple(map(int, figures)) for figures in found]
+        self.assertEqual(len(self.changes), 2)
+
+    def printed(self, words):
+        return subprocess.run([KBEST], input=little(3, 4) + book_bytes(words), stdout=subprocess.PIPE, check=True).stdout.decode()
+
+    def test_pages(self):
+        """The pages are those that the program prints for the book and for each raise, and the reference."""
+        pages = [re.sub('^    ', '', part, flags=re.M) for part in re.findall(r'(?<=\n\n)(?:    .*\n)+(?=\n)', self.text)]
+        made = [tours.book_a(), *(raised(tours.book_a(), 0, c, d) for c, d, _, _ in self.changes)]
+        self.assertEqual(pages, [self.printed(words) for words in made])
+        self.assertEqual(pages, [ref.page(little(3, 4) + book_bytes(words)).decode() for words in made])
+
+    def test_figures(self):
+        for c, d, old, new in self.changes:
+            self.assertEqual((costs(ref.Book(tours.book_a()))[0][c], old + d), (old, new))
+        d, scale, most = map(int, re.search(r'The bound is (\d+) × (\d+) = (\d+)\.', self.text).groups())
+        self.assertEqual((scale, most), (bound(tours.book_a(), 1), bound(tours.book_a(), d)))
+        self.assertEqual({change[1] for change in self.changes}, {d})
 
 
 if __name__ == '__main__':

@@ -1,4 +1,5 @@
 pub mod Facts
+pub mod Lines
 pub mod Options
 pub mod Shape
 pub mod Demands

@@ -16,7 +16,7 @@ use lib.Seq.{take-at, drop-at, drop-drop}
 use Rattle.model.specs.Lists.{forEach}
 use Rattle.model.specs.Bytes.{bytes, signedBytes, fromBytes, signed, wordsOf}
 use Rattle.laws.specs.Members.{Every}
-use Rattle.bytes_io.specs.Slices.{complement}
+use Rattle.bytes_io.specs.Slices.{complement, signedFrom}
 use Rattle.bytes_io.proofs.Parts.{part-step}
 
 -- ---- lengths
@@ -126,9 +126,8 @@ complement-bytes n (negsuc x) l h =
     let e : 18446744073709551615 - x ≡ 256 ^ n - suc x + 256 ^ n * q = omega (arith, all, ap (λ (m : ℕ). 256 ^ n * m) p, mul-suc (256 ^ n) q) in
     ap (bytes n) e ∙ bytes-low n (256 ^ n - suc x) q
 
--- what n bytes hold in two's complement reads back, where the numbers from `half` on are those below 0
-pub read-half : (n half : ℕ) → 256 ^ n ≡ 2 * half → (z : ℤ) → mag z < half
-    → cond (ltb (fromBytes (signedBytes n z)) half) (pos (fromBytes (signedBytes n z))) (negsuc (2 * half - 1 - fromBytes (signedBytes n z))) ≡ z
+-- what n bytes hold in two's complement reads back
+pub read-half : (n half : ℕ) → 256 ^ n ≡ 2 * half → (z : ℤ) → mag z < half → signedFrom half (fromBytes (signedBytes n z)) ≡ z
 read-half n half e (pos x) h = rw (read-bytes n x (omega arith), lt-ltb x half h)
 read-half n half e (negsuc x) h =
     let k : 2 * half - 1 - (256 ^ n - suc x) ≡ x = omega arith in

@@ -6,17 +6,17 @@ use mathlib.Core.Path.{_≡_, refl, sym, ap, ap₂, _∙_}
 use mathlib.Core.Bool.{Bool, true, false, _||_, cond}
 use mathlib.Core.Logic.{inl, inr}
 use mathlib.Core.List.{List, [], _∷_, _++_, map, map-append}
-use Prim.Native.Nat.{ℕ, zero, suc, _+_, _*_, _^_, _≤_, _<_}
+use Prim.Native.Nat.{ℕ, zero, suc, _+_, _*_, _≤_, _<_}
 use native.Mathlib.Omega.{arith}
 use borrow.Author.Tests.{eqb-true, eq-eqb, ne-eqb}
 use lib.Dec.{eqb, ltb}
 use lib.IntN.{ℤ, pos, _+ℤ_, _*ℤ_}
 use Rattle.model.specs.Lists.{bit, forEach}
-use Rattle.model.specs.Model.{Transition, Action, weightsOf, missing}
+use Rattle.model.specs.Model.{Transition, Action, weightsOf}
 use Rattle.model.specs.Path.{Step, Path, pathWeight, pathCost, stopsAfter, pathsFrom, totalCost, totalWeight}
 use Rattle.laws.specs.Int.{is, dif-eq, ring}
 use Rattle.laws.specs.Members.{In, in-one, Every, every-in, in-every, AtNexts}
-use Rattle.laws.specs.Paths.{stepBy, pathsBy, Begins, begins, stop-ends}
+use Rattle.laws.specs.Paths.{stop, stop-ends, stepBy, pathsBy, Begins, begins}
 
 -- an action that costs d more
 abbrev pub raise : ℕ → Action → Action
@@ -84,10 +84,7 @@ module _ (rise : ℕ → ℕ) where
     raised-stop : (m p : ℕ) → stopsAfter D m p (raisedAll p) ≡ map raisePath (stopsAfter D m p (taken p))
     raised-stop m p = go (ltb (weightsOf (taken p .transitions)) D)
       where
-        stop : Action → Path
-        stop a = record { state = p; cost = a .cost; weight = missing D a * D ^ m } ∷ []
-
-        go : (b : Bool) → cond b (stop (raisedAll p) ∷ []) [] ≡ map raisePath (cond b (stop (taken p) ∷ []) [])
+        go : (b : Bool) → cond b (stop D m p (raisedAll p) ∷ []) [] ≡ map raisePath (cond b (stop D m p (taken p) ∷ []) [])
         go true = refl
         go false = refl
 

@@ -12,7 +12,7 @@ use lib.IntN.{ℤ, pos, _+ℤ_}
 use lib.Signed.{_≤ℤ_, _<ℤ_, leZ, leZ-yes, ≤ℤ-refl}
 use lib.ListN.{length, getElem?, take, length-take, length-map}
 use Rattle.model.specs.Lists.{bit, count, insert, sorted}
-use Rattle.laws.specs.Int.{ints, le-in, lt-in, sum-is, ≤ℤ-trans, leZ-no}
+use Rattle.laws.specs.Int.{ints, lt-in, ≤ℤ-trans, leZ-no, +-mono}
 use Rattle.laws.specs.Members.{T-true, true-T, false-T, In, Every, every-in, in-every}
 use Rattle.laws.specs.Sorting.{take-at, at-in, by-test, every-insert, sorted-length, count-sorted}
 use Rattle.laws.specs.Entries.{at-map, count-none, count-imp}
@@ -106,7 +106,7 @@ module _ {A : Type 0} where
   higher {lt} {cost} e o = record { ahead = λ x y h. both x y (o .ahead x y h); behind = λ x y h. both y x (o .behind x y h) }
     where
       both : (x y : A) → cost x ≤ℤ cost y → (cost x +ℤ pos e) ≤ℤ (cost y +ℤ pos e)
-      both x y h = omega (ints, le-in, sum-is (cost x) (pos e), sum-is (cost y) (pos e))
+      both x y h = +-mono (cost x) (cost y) (pos e) (pos e) h (≤ℤ-refl (pos e))
 
   -- where f is at most e above g at each element, it is so at each rank
   pub ranks-within : {lt other : A → A → Bool} {f g : A → ℤ} → ByCost lt f → ByCost other g → (e : ℕ) (xs : List A)

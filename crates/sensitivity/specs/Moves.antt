@@ -10,14 +10,14 @@ use native.Mathlib.Omega.{arith}
 use borrow.Author.Tests.{eqb-true, eq-eqb, ne-eqb}
 use lib.Dec.{T, eqb}
 use lib.IntN.{ℤ, pos, _+ℤ_, +ℤ-idr}
-use lib.Signed.{_≤ℤ_}
+use lib.Signed.{_≤ℤ_, ≤ℤ-refl}
 use lib.ListN.{length, length-map}
 use Rattle.model.specs.Model.{Words, Action, scale, horizon, stateCount, actionCount, action, options}
 use Rattle.model.specs.Questions.{bookNumber}
 use Rattle.model.specs.Policy.{Policy, isPolicy, policies}
 use Rattle.model.specs.Path.{totalCost, pathsFrom, byteAt, taken, paths, policyCost}
 use Rattle.model.specs.Order.{comesBefore, ranking, rankingCosts}
-use Rattle.laws.specs.Int.{ints, le-in, sum-is}
+use Rattle.laws.specs.Int.{ints, le-in, sum-is, +-mono}
 use Rattle.laws.specs.Members.{In}
 use Rattle.laws.specs.Ranks.{Moved, ranks-near}
 use Rattle.laws.specs.Order.{by-cost}
@@ -64,21 +64,22 @@ module _ (ws : Words) (ok : bookNumber ws ≡ 0) (p c d : ℕ) (state : p < stat
       go true h = ap (λ (r : ℕ). cond (eqb (byteAt bs r) c) d 0) (eqb-true q p h)
       go false h = refl
 
+  rise-is : (bs : Policy) → more bs * weightPast p (paths ws bs) ≡ d * weightThrough ws bs p c
+  unfolding weightThrough
+  rise-is bs = go (eqb (byteAt bs p) c)
+    where
+      go : (t : Bool) → cond t d 0 * weightPast p (paths ws bs) ≡ d * cond t (weightPast p (paths ws bs)) 0
+      go true = refl
+      go false = omega arith
+
   -- a policy's cost rises by d × the weight of its paths on which it takes the action
   pub cost-rises : (bs : Policy) → policyCost (raised ws p c d) bs ≡ policyCost ws bs +ℤ pos (d * weightThrough ws bs p c)
-  unfolding policyCost paths taken weightThrough
+  unfolding policyCost paths taken
   cost-rises bs =
       ap₂ (λ (D h : ℕ). totalCost (pathsFrom D (taken us bs) h 0)) (scale-same ws p c d) (horizon-same ws p c d)
       ∙ ap (λ (f : ℕ → Action). totalCost (pathsFrom (scale ws) f (horizon ws) 0)) (fun-ext (taken-raised bs))
       ∙ one-raised p (more bs) (scale ws) (taken ws bs) (λ q. shape ws ok .later q (byteAt bs q)) (horizon ws) 0
-      ∙ ap (λ (n : ℕ). policyCost ws bs +ℤ pos n) (go (eqb (byteAt bs p) c))
-    where
-      past : ℕ
-      past = weightPast p (paths ws bs)
-
-      go : (t : Bool) → cond t d 0 * past ≡ d * cond t past 0
-      go true = refl
-      go false = omega arith
+      ∙ ap (λ (n : ℕ). policyCost ws bs +ℤ pos n) (rise-is bs)
 
   -- so the cost of one that does not take it stays
   pub cost-stays : (bs : Policy) → (byteAt bs p ≡ c → ⊥) → policyCost (raised ws p c d) bs ≡ policyCost ws bs
@@ -104,11 +105,11 @@ module _ (ws : Words) (ok : bookNumber ws ≡ 0) (p c d : ℕ) (state : p < stat
       low : (z : ℤ) (n : ℕ) → z ≤ℤ (z +ℤ pos n)
       low z n = omega (ints, le-in, sum-is z (pos n))
 
-      add : (z : ℤ) (m n : ℕ) → m ≤ n → (z +ℤ pos m) ≤ℤ (z +ℤ pos n)
-      add z m n l = omega (ints, le-in, sum-is z (pos m), sum-is z (pos n))
-
       high : (policyCost ws bs +ℤ pos (d * weightThrough ws bs p c)) ≤ℤ (policyCost ws bs +ℤ pos (mostRise ws d))
-      high = add (policyCost ws bs) (d * weightThrough ws bs p c) (mostRise ws d) (mul-le-mul-left d (through-most bs t))
+      high =
+          let l : d * weightThrough ws bs p c ≤ mostRise ws d = mul-le-mul-left d (through-most bs t) in
+          +-mono (policyCost ws bs) (policyCost ws bs) (pos (d * weightThrough ws bs p c)) (pos (mostRise ws d)) (≤ℤ-refl (policyCost ws bs))
+          (omega (ints, le-in))
 
   module _ (K : ℕ) where
     -- "the cost at each rank doesn't fall and rises by at most d × D^H"

@@ -1,11 +1,11 @@
 -- Request 2.2, "What a slower leg can do": the book with one cost raised, how far a cost may rise by it, the weight of a policy's paths through one action, and
 -- the costs of a record as its reader has them. No contract cites these definitions.
 -- Assumes nothing.
-use Prim.Native.Nat.{ℕ, _+_, _*_, _-_, _^_}
+use Prim.Native.Nat.{ℕ, _+_, _*_, _^_}
 use mathlib.Core.Bool.{cond}
 use mathlib.Core.List.{List}
-use lib.IntN.{ℤ, pos, negsuc, _+ℤ_}
-use lib.Dec.{eqb, ltb}
+use lib.IntN.{ℤ, pos, _+ℤ_}
+use lib.Dec.{eqb}
 use lib.ListN.{take, drop, set}
 use Rattle.model.specs.Bytes.{fromBytes}
 use Rattle.model.specs.Model.{Words, word, scale, horizon, lineCount, stateCount, actionLine}
@@ -13,6 +13,7 @@ use Rattle.model.specs.Policy.{Policy}
 use Rattle.model.specs.Path.{byteAt, paths}
 use Rattle.model.specs.Record.{listStart}
 use Rattle.laws.specs.Raises.{weightPast}
+use Rattle.bytes_io.specs.Slices.{signedFrom}
 
 -- "A choice's first line holds r (left) and its cost in seconds (right).": the index of the word that is the cost of action c of state p
 unfoldable pub costIndex : Words → ℕ → ℕ → ℕ
@@ -30,13 +31,10 @@ mostRise ws d = d * scale ws ^ horizon ws
 unfoldable pub weightThrough : Words → Policy → ℕ → ℕ → ℕ
 weightThrough ws bs p c = cond (eqb (byteAt bs p) c) (weightPast p (paths ws bs)) 0
 
--- "costs of eight bytes, two's complement, low byte first": the number x of eight bytes as a signed one, which is below 0 from 2^63 on
+-- in 64 bits the numbers from 2^63 on say those below 0
 abbrev pub negativeFrom : ℕ
-negativeFrom = 9223372036854775808
+negativeFrom = 2 ^ 63
 
-abbrev pub signed64 : ℕ → ℤ
-signed64 x = cond (ltb x negativeFrom) (pos x) (negsuc (18446744073709551615 - x))
-
--- the cost of plan j as a record has it
+-- "costs of eight bytes, two's complement, low byte first": the cost of plan j, counted from 0, as a record has it
 unfoldable pub filedCost : List ℕ → ℕ → ℤ
-filedCost bs j = signed64 (fromBytes (take 8 (drop (listStart bs + j * 8) bs)))
+filedCost bs j = signedFrom negativeFrom (fromBytes (take 8 (drop (listStart bs + j * 8) bs)))

@@ -19,11 +19,12 @@ use Rattle.laws.specs.Members.{Every}
 use Rattle.laws.specs.Sorting.{at-in}
 use Rattle.laws.specs.Entries.{some-at}
 use Rattle.accepted.specs.Demands.{in-list, costs-are, cost-fits}
+use Rattle.bytes_io.specs.Slices.{signedFrom}
 use Rattle.bytes_io.proofs.Numbers.{read-half}
 use Rattle.record.specs.Carried.{length-written, count-written}
 use Rattle.record.specs.Demand2.{accepted-exactly}
 use Rattle.record.specs.Demand3.{cost-bytes}
-use Rattle.sensitivity.specs.Raise.{raised, mostRise, negativeFrom, signed64, filedCost}
+use Rattle.sensitivity.specs.Raise.{raised, mostRise, negativeFrom, filedCost}
 use Rattle.sensitivity.specs.Moves.{costs-move, lengths-same}
 
 -- the second record lists as many plans as the first, and its cost at each rank is that of the first or at most e more
@@ -38,8 +39,8 @@ module _ (ws : Words) (ok : bookNumber ws ≡ 0) (K : ℕ) where
   cost-filed : (j : ℕ) (bs : Policy) → getElem? (ranking ws K) j ≡ some bs → filedCost (recordBytes ws K) j ≡ policyCost ws bs
   unfolding filedCost listStart
   cost-filed j bs e =
-      ap (λ (n : ℕ). signed64 (fromBytes (take 8 (drop (12 + 4 * n + j * 8) (recordBytes ws K))))) (length-written ws ok K)
-      ∙ ap (λ (b : List ℕ). signed64 (fromBytes b)) (cost-bytes ws ok K j bs e)
+      ap (λ (n : ℕ). signedFrom negativeFrom (fromBytes (take 8 (drop (12 + 4 * n + j * 8) (recordBytes ws K))))) (length-written ws ok K)
+      ∙ ap (λ (b : List ℕ). signedFrom negativeFrom (fromBytes b)) (cost-bytes ws ok K j bs e)
       ∙ read-half 8 negativeFrom refl (policyCost ws bs) (small (policyCost ws bs) (cost-fits ws ok bs (in-list ws ok K bs .0 (at-in (ranking ws K) j bs e) .0)))
     where
       small : (z : ℤ) → natAbs z ≤ 4000000000000000000 → mag z < negativeFrom

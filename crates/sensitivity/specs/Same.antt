@@ -20,10 +20,10 @@ use Rattle.laws.specs.Raises.{raise}
 use Rattle.questions.specs.Ranges.{sum-same}
 use Rattle.questions.specs.Stages.{of-stage}
 use Rattle.accepted.specs.Facts.{accepted}
+use Rattle.accepted.specs.Lines.{one-action, line-inside}
 use Rattle.accepted.specs.Options.{options-are}
 use Rattle.accepted.specs.Shape.{action-is, action-none}
 use Rattle.sensitivity.specs.Raise.{costIndex, raised}
-use Rattle.sensitivity.specs.Lines.{one-action, line-inside}
 
 -- by how much action b of state q costs more in the raised book
 abbrev pub extra : ℕ → ℕ → ℕ → ℕ → ℕ → ℕ
@@ -114,21 +114,17 @@ module _ (ws : Words) (p c d : ℕ) where
   skip-same i (suc n) h = ap (lineAfter us) (skip-same i n (λ m l. h m (omega arith))) ∙ after-same (skip ws i n) (h n (omega arith))
 
   module _ (ok : bookNumber ws ≡ 0) where
-    low-line : (q b : ℕ) → q < stateCount ws → b < actionCount ws q → skip ws (stateLine ws q) b < lineCount ws
-    unfolding actionLine
-    low-line q b l k = line-inside ws ok q b l k
-
     state-line-same : (q : ℕ) → q ≤ stateCount ws → stateLine us q ≡ stateLine ws q
-    unfolding stateLine
+    unfolding stateLine actionLine
     state-line-same zero l = refl
     state-line-same (suc q) l =
         ap₂ (skip us) (state-line-same q (omega arith)) (actions-same q (omega arith))
-        ∙ skip-same (stateLine ws q) (actionCount ws q) (λ m k. low-line q m (omega arith) k)
+        ∙ skip-same (stateLine ws q) (actionCount ws q) (λ m k. line-inside ws ok q m (omega arith) k)
 
     line-same : (q b : ℕ) → q < stateCount ws → b < actionCount ws q → actionLine us q b ≡ actionLine ws q b
     unfolding actionLine
     line-same q b l k =
-        ap (λ (j : ℕ). skip us j b) (state-line-same q (omega arith)) ∙ skip-same (stateLine ws q) b (λ m h. low-line q m l (omega arith))
+        ap (λ (j : ℕ). skip us j b) (state-line-same q (omega arith)) ∙ skip-same (stateLine ws q) b (λ m h. line-inside ws ok q m l (omega arith))
 
     -- ---- actions
 
