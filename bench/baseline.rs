@@ -61,7 +61,7 @@ impl<'a> Book<'a> {
             for _ in 0..size {
                 for _ in 0..self.counts[post] {
                     let Some(&r) = self.left.get(line) else { return 9 };
-                    let most = if stage == self.h { 0 } else { 16 };
+                    let most = if stage == self.h { 0 } else { 6 };
                     if !(0..=most).contains(&r) {
                         return 9;
                     }

@@ -102,9 +102,9 @@ fn typical(rng: &mut Random, stops: i32) -> Vec<i32> {
 
 const LARGEST: [i32; 9] = [1, 7, 8, 8, 8, 8, 8, 8, 8];
 
-/// 64 posts, H = 8, 2,048 lines.
+/// 64 posts, H = 8, 2,048 lines: every other choice has 6 next posts.
 fn largest(rng: &mut Random, costs: (i32, i32)) -> Vec<i32> {
-    let transitions = |i: usize| 3 + (i % 2 == 0 || i < 48) as i32;
+    let transitions = |i: usize| if i % 2 == 0 { 6 } else { 1 + (i < 48) as i32 };
     random_book(rng, &Shape { scale: 10, sizes: &LARGEST, choices: 8, costs, transitions: &transitions, stops: 0 })
 }
 
@@ -176,8 +176,8 @@ fn assert_small_books(rng: &mut Random) -> usize {
     let mut compared = 0;
     for round in 0..800 {
         let stops = if round % 2 == 0 { 0 } else { 50 };
-        let sizes: Vec<i32> = (0..rng.from(2, 4)).map(|n| if n == 0 { 1 } else { rng.from(1, 4) }).collect();
-        let (scale, choices, most) = (rng.from(1, 6), rng.from(1, 3), rng.from(1, 4));
+        let sizes: Vec<i32> = (0..rng.from(2, 4)).map(|n| if n == 0 { 1 } else { rng.from(1, 7) }).collect();
+        let (scale, choices, most) = (rng.from(1, 8), rng.from(1, 3), rng.from(1, 6));
         let shape = Shape { scale, sizes: &sizes, choices, costs: (0, rng.from(0, 9)), transitions: &|i| 1 + (i as i32 % most), stops };
         let mut book = random_book(rng, &shape);
         assert_eq!(kbest::check(&book), Ok(()), "a book that is not spoiled is accepted: {book:?}");

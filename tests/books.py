@@ -8,6 +8,8 @@ import reference as ref
 MOST_PLANS = 4000
 MOST_WALKS = 60000
 WORST = 2 ** 31 - 1
+MOST_NEXT = 6    # next posts that question 9 allows a choice
+MOST_LINES = 2048
 
 
 def build(scale, sizes, choices):
@@ -32,7 +34,7 @@ def weights(rng, scale, r):
 
 
 def nexts(rng, scale, size, r):
-    r = max(1, min(r, size, scale, 16))
+    r = max(1, min(r, size, scale, MOST_NEXT))
     return list(zip(sorted(rng.sample(range(size), r)), weights(rng, scale, r)))
 
 
@@ -88,7 +90,7 @@ def deep(rng):
 def wide(rng):
     scale, stages = scale_of(rng), rng.randint(1, 2)
     sizes = random_sizes(rng, stages, rng.choice([4, 8, 16]))
-    return fill(rng, scale, sizes, 8, 16, costs_within(rng, most_cost(scale, stages)), rng.choice([8, 60, 1000]))
+    return fill(rng, scale, sizes, 8, MOST_NEXT, costs_within(rng, most_cost(scale, stages)), rng.choice([8, 60, 1000]))
 
 
 def ties(rng):
@@ -143,51 +145,51 @@ def split_up(rng, total, parts, most):
     return sizes
 
 
-def large(rng):
-    """64 posts and 2,048 lines. Two posts a stage can be reached, and have few choices; the others have all the lines that are left."""
-    stages = rng.randint(5, 8)
-    scale = rng.choice([16, 60, 100])
-    sizes = [1] + split_up(rng, 63, stages, 16)
-    cost = costs_within(rng, most_cost(scale, stages))
-    stage = stage_of(sizes)
-    first = [sum(sizes[:n]) for n in range(stages + 1)]
-    rows = []
-    budget = rng.choice([1, 16, 64])
-    for post, n in enumerate(stage):
-        if n == stages:
-            rows.append([0])
-        elif post - first[n] < 2:
-            count = max(1, min(rng.randint(1, 2), budget))
-            budget //= count
-            rows.append([min(rng.randint(1, 2), sizes[n + 1]) for _ in range(count)])
-        else:
-            rows.append([1])
-    free = [post for post, n in enumerate(stage) if n < stages and post - first[n] >= 2]
+def lengthen(rng, rows, most):
+    """Adds choices and next posts at random up to 2,048 lines. rows[post] has the number of next posts of each choice, and most[post] is how many one may have
+    there; 0 leaves the post as it is. Is every line used?"""
+    free = [post for post, r in enumerate(most) if r]
     lines = sum(1 + r for row in rows for r in row)
     for _ in range(20000):
-        if lines >= 2048 or not free:
-            break
+        if lines == MOST_LINES:
+            return True
         post = rng.choice(free)
         i = rng.randrange(len(rows[post]))
-        if len(rows[post]) < 8 and lines + 2 <= 2048 and rng.random() < 0.5:
+        if len(rows[post]) < 8 and lines + 2 <= MOST_LINES and rng.random() < 0.5:
             rows[post].append(1)
             lines += 2
-        elif rows[post][i] < min(16, sizes[stage[post] + 1], scale):
+        elif rows[post][i] < most[post]:
             rows[post][i] += 1
             lines += 1
+    return False
+
+
+def large(rng):
+    """64 posts and 2,048 lines. Two posts a stage can be reached, and have few choices; the others have all the lines that are left."""
+    while True:
+        stages, scale = rng.randint(5, 8), rng.choice([16, 60, 100])
+        sizes = [1] + split_up(rng, 63, stages, 16)
+        places = [(n, post < 2) for n, size in enumerate(sizes) for post in range(size)]    # the stage, and whether some plan reaches the post
+        budget, rows = rng.choice([1, 16, 64]), []
+        for n, near in places:
+            count = max(1, min(rng.randint(1, 2), budget)) if near and n < stages else 1
+            budget //= count
+            rows.append([min(rng.randint(1, 2), sizes[n + 1]) if near else 1 for _ in range(count)] if n < stages else [0])
+        if lengthen(rng, rows, [0 if near or n == stages else min(MOST_NEXT, sizes[n + 1]) for n, near in places]):
+            break
+    cost = costs_within(rng, most_cost(scale, stages))
     choices = []
-    for post, n in enumerate(stage):
-        core = n < stages and post - first[n] < 2
-        reach = min(2, sizes[n + 1]) if core else (sizes[n + 1] if n < stages else 0)
-        choices.append([(cost(rng), nexts(rng, scale, reach, r) if r else []) for r in rows[post]])
+    for (n, near), row in zip(places, rows):
+        size = 0 if n == stages else min(2, sizes[n + 1]) if near else sizes[n + 1]
+        choices.append([(cost(rng), nexts(rng, scale, size, r) if r else []) for r in row])
     return build(scale, sizes, choices)
 
 
 def full(rng):
-    """Every post reached, 16 to a stage, by 16 next posts a choice: few plans, thousands of days."""
-    sizes = [1, 16, 16, rng.choice([1, 16])]
-    scale = rng.choice([16, 17, 100])
-    return fill(rng, scale, sizes, 2, 16, costs_within(rng, most_cost(scale, 3)), rng.choice([1, 2, 8]))
+    """Sixteen posts a stage, and up to 6 next posts a choice: few plans, hundreds of days."""
+    sizes = [1, 16, 16, 16, rng.choice([1, 15])]
+    scale = rng.choice([6, 7, 100])
+    return fill(rng, scale, sizes, 2, MOST_NEXT, costs_within(rng, most_cost(scale, 4)), rng.choice([1, 2, 8]))
 
 
 def vast(rng):
@@ -196,12 +198,19 @@ def vast(rng):
         stages, scale = rng.randint(4, 8), rng.choice([2, 3, 10, 60, 100])
         any_cost = costs_within(rng, most_cost(scale, stages))
         cost = rng.choice([lambda r: 0, lambda r: r.randint(0, 1), any_cost, any_cost])
-        words = fill(rng, scale, [1] + split_up(rng, 63, stages, 16), rng.randint(2, 8), rng.choice([2, 3, 6, 16]), cost, 10 ** 60)
-        if words[2] <= 2048:
+        words = fill(rng, scale, [1] + split_up(rng, 63, stages, 16), rng.randint(2, 8), rng.choice([2, 3, MOST_NEXT]), cost, 10 ** 60)
+        if words[2] <= MOST_LINES:
             return words
 
 
-WITHOUT_STOPS = [small, deep, wide, ties, few, unreached, crossing, edge]
+def six(rng):
+    """At least 7 posts a stage; more than half of the choices have 6 next posts, as many as are allowed."""
+    stages, scale = rng.randint(1, 3), rng.choice([6, 7, 10, 100])
+    sizes = [1] + [rng.randint(7, 9) for _ in range(stages)]
+    return fill(rng, scale, sizes, 4, 2 * MOST_NEXT, costs_within(rng, most_cost(scale, stages)), rng.choice([4, 60, 250]))
+
+
+WITHOUT_STOPS = [small, deep, wide, ties, few, unreached, crossing, edge, six]
 
 
 # ---- shapes with stops: the weights of a choice before stage H add to less than D
@@ -340,6 +349,10 @@ def stops_wide(rng):
     return partly(rng, wide(rng))
 
 
+def stops_six(rng):
+    return partly(rng, six(rng), barely)
+
+
 def stops_edge(rng):
     """As edge: question 13 asks for the largest cost of all choices, whatever stops."""
     return partly(rng, edge(rng), rng.choice([below, barely, nothing]))
@@ -363,7 +376,7 @@ def stops_vast(rng):
 
 
 WITH_STOPS = [stops, stops_each_stage, stops_everywhere, sure_stops, post_0_stops, stops_unreached, stops_barely, stops_and_ties, stops_and_gains, stops_deep,
-              stops_wide, stops_edge]
+              stops_wide, stops_edge, stops_six]
 SHAPES = WITHOUT_STOPS + WITH_STOPS
 
 
@@ -469,7 +482,7 @@ def break_7(rng, words, at):
     elif kind == 1:
         del words[rng.randint(4 + at.stages, len(words) - 1):]
     elif kind == 2:
-        words[2] += rng.choice([1, -1]) if 1 < words[2] < 2048 else 0
+        words[2] += rng.choice([1, -1]) if 1 < words[2] < MOST_LINES else 0
     else:
         words[rng.choice(at.sizes[1:])] = rng.randint(1, 16)
 
@@ -484,7 +497,7 @@ def break_8(rng, words, at):
 def break_9(rng, words, at):
     kind = rng.randrange(5)
     if kind == 0:
-        words[at.left + rng.choice(at.heads)] = rng.choice([0, -1, 17, WORST, -WORST - 1])
+        words[at.left + rng.choice(at.heads)] = rng.choice([0, -1, 7, WORST, -WORST - 1])
     elif kind == 1:
         words[at.left + rng.choice(at.last_heads)] = rng.choice([1, -1, WORST])
     elif kind == 2:
@@ -492,7 +505,7 @@ def break_9(rng, words, at):
     elif kind == 3:
         post = rng.randrange(at.posts - at.book.sizes[at.stages])
         words[at.counts[post]] = words[at.counts[post]] % 8 + 1
-    elif words[2] < 2048:
+    elif words[2] < MOST_LINES:
         words[2] += 1
         words.insert(at.right, rng.choice([0, 0, 1]))
         words.append(rng.choice([0, 1]))
@@ -537,6 +550,23 @@ def broken(rng, words, faults):
         except (IndexError, ValueError):
             pass
     return words
+
+
+def with_row(words, post, choice, lines):
+    """The book with other lines below the first of one choice."""
+    book = ref.Book(words)
+    book.choices[post][choice] = book.choices[post][choice][0], lines
+    return build(book.scale, book.sizes, book.choices)
+
+
+def seven(rng):
+    """A choice, of a post that is reached or not, with 7 next posts or more and a line for each: with 7 nothing but the limit of question 9 is amiss."""
+    words = [0]
+    while words[0] < 7:
+        words = rng.choice([six, stops_six])(rng)
+    r = rng.choice([7, 7, 7, 8, 16, 17])
+    parts = weights(rng, rng.randint(7, words[0]), 7) if r == 7 else [1] * r
+    return with_row(words, *rng.choice(deciding(ref.Book(words))), list(zip(range(r), parts)))
 
 
 def wild(rng):

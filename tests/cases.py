@@ -5,8 +5,8 @@
     tests/cases.py show SEED N      prints case N of a seed of fresh.py, each command with what is expected; seed `stored` for a stored one
 
 Each rule of document 01 has its cases here: the tours, each question from both sides, which of two comes first, rooms and counts at their limits,
-ties, records with each byte changed, pages, the largest book. After them stand those of document 02: stops. Breadth is fresh.py's; a few of its kinds are
-stored too. New cases are added at the end, so that the others keep their numbers.
+ties, records with each byte changed, pages, the largest book. After them stand those of document 02: stops, six next posts. Breadth is fresh.py's; a few of
+its kinds are stored too. New cases are added at the end, so that the others keep their numbers.
 """
 
 import os
@@ -94,12 +94,17 @@ def with_words(words, *changes):
     return words
 
 
+def to_first(scale, r):
+    """The first r posts of the next stage, with weights that add to the scale."""
+    return [(i, 1 if i < r - 1 else scale - r + 1) for i in range(r)]
+
+
 def one_choice(scale, sizes, cost=1):
     """One choice a post, to every next post that the scale can tell apart."""
     rows = []
     for n, size in enumerate(sizes):
         r = min(sizes[n + 1], scale) if n + 1 < len(sizes) else 0
-        rows += [[(cost, [(i, 1 if i < r - 1 else scale - r + 1) for i in range(r)])]] * size
+        rows += [[(cost, to_first(scale, r))]] * size
     return books.build(scale, sizes, rows)
 
 
@@ -299,13 +304,23 @@ def power_cases():
     yield 'powers', [Command('power', k=d, z=e) for d in (0, 1, 2, 7, 10, 99, 100, 101, 2 ** 32 + 2, 2 ** 64 - 1) for e in (0, 1, 2, 7, 8, 9, 255)]
 
 
-def largest():
-    """64 posts, H = 8, 2,048 lines."""
-    rng, sizes, rows = random.Random('largest'), [1, 7] + [8] * 7, []
-    lines = [4] * 48 + [4, 3] * 200    # below each choice's first
+def largest_of(name, counts, low):
+    """64 posts, H = 8, D = 10, 8 choices a post. Each choice of post 0 has 6 lines below its first, the others have those of counts, so that there are 2,048
+    lines. Weights add to a number from low to D."""
+    rng, sizes, rows = random.Random(name), [1, 7] + [8] * 7, []
+    rng.shuffle(counts)
+    counts += [6] * 8
     for n, size in enumerate(sizes[:-1]):
-        rows += [[(rng.randint(-500, 3000), books.nexts(rng, 10, sizes[n + 1], lines.pop(0))) for _ in range(8)] for _ in range(size)]
-    return books.build(10, sizes, rows + [[(rng.randint(0, 99), [])] for _ in range(8)])
+        here = [counts.pop() for _ in range(8 * size)]
+        choices = [(rng.randint(-500, 3000), books.nexts(rng, rng.randint(low, 10), sizes[n + 1], r) if r else []) for r in here]
+        rows += [choices[i:i + 8] for i in range(0, len(choices), 8)]
+    words = books.build(10, sizes, rows + [[(rng.randint(0, 99), [])] for _ in range(8)])
+    assert len(words) == ref.LONGEST_BOOK and not ref.check(words)
+    return words
+
+
+def largest():
+    return largest_of('largest', [6] * 220 + [2] * 4 + [1] * 216, 10)
 
 
 def largest_case():
@@ -364,8 +379,8 @@ def stop_limits():
     yield from ((12, 'weights %d and %d of 4' % pair, books.build(4, [1, 2], [[(5, [(0, pair[0]), (1, pair[1])])], [(2, [])], [(3, [])]]))
                 for pair in ((1, 1), (2, 1), (2, 2), (2, 3), (4, 1), (0, 4)))
     yield from ((12, 'weight %d of 100' % x, one_post(100, (5, [(0, x)]))) for x in (1, 99, 100, 101))
-    sixteen = [[(5, [(i, 1) for i in range(16)])]] + [[(i, [])] for i in range(16)]
-    yield from ((12, '16 weights of 1, D %d' % d, books.build(d, [1, 16], sixteen)) for d in (15, 16, 17))
+    six = [[(5, [(i, 1) for i in range(6)])]] + [[(i, [])] for i in range(6)]
+    yield from ((12, '6 weights of 1, D %d' % d, books.build(d, [1, 6], six)) for d in (5, 6, 7))
     yield 12, 'D 1 and two weights', books.build(1, [1, 2], [[(5, [(0, 1), (1, 1)])], [(2, [])], [(3, [])]])
     yield 12, 'a sum of D + 1 at a post that no plan reaches', books.build(2, [1, 1, 2], [[(5, [])], [(1, [(0, 2), (1, 1)])], [(2, [])], [(3, [])]])
     for weight in (0, 99):
@@ -401,15 +416,8 @@ def stop_list_cases():
 
 
 def largest_with_stops():
-    """64 posts, H = 8, 2,048 lines; one choice in eight stops surely and most others may stop."""
-    rng, sizes, rows = random.Random('largest with stops'), [1, 7] + [8] * 7, []
-    counts = [0] * 56 + [4] * 368 + [5] * 24    # lines below each choice's first
-    rng.shuffle(counts)
-    for n, size in enumerate(sizes[:-1]):
-        here = [counts.pop() for _ in range(8 * size)]
-        choices = [(rng.randint(-500, 3000), books.nexts(rng, rng.randint(7, 10), sizes[n + 1], r) if r else []) for r in here]
-        rows += [choices[i:i + 8] for i in range(0, len(choices), 8)]
-    return books.build(10, sizes, rows + [[(rng.randint(0, 99), [])] for _ in range(8)])
+    """One choice in eight stops surely, and most others may stop."""
+    return largest_of('largest with stops', [0] * 56 + [6] * 232 + [1] * 152, 7)
 
 
 def largest_with_stops_case():
@@ -419,11 +427,75 @@ def largest_with_stops_case():
         return Case('the largest book with stops', book(words) + calls, True)
 
 
+# ---- rows: a choice has at most 6 next posts (2.3 of document 02)
+
+ROW_SIZES = [1, 8, 7, 7, 8]
+
+
+def row_at(n, *lines, sizes=ROW_SIZES):
+    """D = 9. The last choice of the first post of stage n has these lines; every other choice leads to the first post of the next stage."""
+    rows = [[(m, to_first(9, 1)), (2 * m, to_first(9, 1))] if m < len(sizes) - 1 else [(i, [])] for m, size in enumerate(sizes) for i in range(size)]
+    rows[sum(sizes[:n])][-1] = 3, list(lines)
+    return books.build(9, sizes, rows)
+
+
+def row_limits():
+    """(question, what, book) on both sides of question 9."""
+    for n in range(len(ROW_SIZES) - 1):
+        yield from ((9, '%d next posts at stage %d of 4' % (r, n), row_at(n, *to_first(9, r))) for r in (6, 7))
+    yield from ((9, '%d next posts' % r, books.build(16, [1, 16], [[(5, to_first(16, r))]] + [[(i, [])] for i in range(16)])) for r in (5, 6, 7, 8, 15, 16))
+    yield from ((9, '%d next posts at every choice' % r, one_choice(r, [1, 7, 7])) for r in (6, 7))
+    yield from ((9, '%d next posts at one of 8 choices' % r, books.build(7, [1, 7], [[(c, to_first(7, 6)) for c in range(7)] + [(9, to_first(7, r))]]
+                                                                         + [[(i, [])] for i in range(7)])) for r in (6, 7))
+    far = [[(1, to_first(7, 1))], [(2, to_first(7, 1))]]
+    yield from ((9, '%d next posts at a post that no plan reaches' % r, books.build(7, [1, 2, 7], far + [[(3, to_first(7, r))]] + [[(i, [])] for i in range(7)]))
+                for r in (6, 7))
+    yield from ((9, '%d next posts and a stop' % r, row_at(1, *((i, 1) for i in range(r)))) for r in (6, 7))
+    yield 9, '7 next posts of 6', row_at(1, *to_first(9, 7), sizes=[1, 7, 6, 7, 8])
+    yield 9, '7 next posts at stage H', row_at(4, *to_first(9, 7))
+
+
+ROW_FAULTS = {
+    8: lambda at: (at.counts[1], 9),
+    10: lambda at: (at.right + at.heads[0], 100001),
+    11: lambda at: (at.left + at.steps[0][0], 8),
+    12: lambda at: (at.right + at.steps[0][0], 10),
+}
+
+
+def row_order_cases():
+    """A row of 7 where another question is answered no too, and a row of 6 there."""
+    for r in (6, 7):
+        words = row_at(2, *to_first(9, r))
+        at = books.Places(words)
+        for q, fault in ROW_FAULTS.items():
+            other = with_words(words, fault(at))
+            assert ref.check(other) == (min(q, 9) if r == 7 else q)
+            yield '%d next posts, and question %d' % (r, q), list(kinds.carried(other, 65, 0, b'1'))
+        yield '%d next posts, and questions 10 to 12' % r, list(kinds.carried(with_words(words, *(ROW_FAULTS[q](at) for q in (10, 11, 12))), 65, 0, b'1'))
+        yield '%d next posts, and a word more' % r, list(kinds.carried(words + [0], 65, 0, b'1'))
+        deep = one_choice(100, [1] * 8 + [r], 45)
+        assert ref.check(deep) == (9 if r == 7 else 13)
+        yield '%d next posts, and question 13' % r, list(kinds.carried(deep, 65, 0, b'1'))
+
+
+def row_record_cases():
+    """Records as they were written while 16 next posts were allowed."""
+    for r in (6, 7, 16):
+        words = books.build(16, [1, 16], [[(5, to_first(16, r)), (4, to_first(16, 1))]] + [[(i, [])] for i in range(16)])
+        record = ref.record(words, 3)
+        yield 'the record of a book with %d next posts' % r, [put(record), accept(len(record))] + [c for j in range(3) for c in show(j, len(record))]
+    words = books.build(6, [1, 6], [[(5, to_first(6, 6)), (4, to_first(6, 1))]] + [[(i, [])] for i in range(6)])
+    yield 'the record of a book with 6 next posts, each byte with bit 1 flipped', flipped(ref.record(words, 2), 1)
+
+
 # ---- all of them
 
 DRAWN = {'small': 6, 'deep': 2, 'wide': 1, 'ties': 5, 'few': 3, 'unreached': 3, 'crossing': 6, 'many': 1, 'edge': 2, 'full': 1, 'faults': 6, 'noise': 8}
 DRAWN_STOPS = {'stops': 3, 'post_0_stops': 1, 'stops_deep': 1, 'stops_each_stage': 1, 'stops_everywhere': 1, 'stops_edge': 2, 'stops_unreached': 1,
                'sure_stops': 1, 'stops_barely': 1, 'stops_and_ties': 2, 'stops_and_gains': 1, 'stops_wide': 1, 'stops, faults': 3}
+
+DRAWN_ROWS = {'six': 2, 'stops_six': 2, 'seven': 6}
 
 
 def made(*groups):
@@ -440,6 +512,8 @@ def stored():
     cases += drawn(DRAWN)
     cases += made(rows_of_tours(tours.MORE_ROWS), place_cases(), limits(stop_limits()), stop_order_cases(), stop_list_cases()) + [largest_with_stops_case()]
     cases += drawn(DRAWN_STOPS, sum(DRAWN.values()))
+    cases += made(limits(row_limits()), row_order_cases(), row_record_cases())
+    cases += drawn(DRAWN_ROWS, sum(DRAWN.values()) + sum(DRAWN_STOPS.values()))
     return [case._replace(title='%d %s' % (n, case.title)) for n, case in enumerate(cases)]
 
 

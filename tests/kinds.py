@@ -147,10 +147,20 @@ def faulty(rng, faults, shapes=FAULTY + FAULTY_STOPS):
     return words
 
 
+def some_faults(rng):
+    """A book with one fault or a few, or with a choice of 7 next posts or more."""
+    return books.seven(rng) if rng.random() < 0.1 else faulty(rng, rng.sample(books.BREAKS, rng.choice([1, 1, 1, 2, 3])))
+
+
 def refused(rng, words):
     most = rng.choice([3, 64, bad_count(rng)])
     tail = bytes(rng.randrange(256) for _ in range(rng.choice([0, 8, 11])))
     return carried(words, most, rng.choice([0, 1, 2, most % 2 ** 32]), tail)
+
+
+def seven(rng):
+    """A choice of 7 next posts or more, alone or where a later question of the book is answered no too."""
+    return refused(rng, books.broken(rng, books.seven(rng), rng.sample(books.BREAKS[9:], rng.choice([0, 0, 1, 2]))))
 
 
 def wild(rng):
@@ -237,7 +247,7 @@ def any_input(rng):
     if kind == 1:
         k = rng.choice([0, 65, 256, 2 ** 31, 2 ** 32 - 1])
     if kind in (2, 3):
-        words = faulty(rng, rng.sample(books.BREAKS, rng.choice([1, 1, 1, 2, 3])))
+        words = some_faults(rng)
     data = machine.little(k, 4) + book_bytes(words)
     if kind == 4:
         return data + bytes(rng.randint(1, 3))
@@ -290,7 +300,7 @@ def any_record(rng):
         return rng.choice(list(other_lists(*some_plans(rng))))
     words = books.draw(rng, rng.choice(books.SHAPES))
     if kind == 2 or ref.check(words):
-        words = faulty(rng, rng.sample(books.BREAKS, rng.choice([1, 1, 1, 2, 3])))
+        words = some_faults(rng)
         return head(words, rng.choice([3, 64, bad_count(rng) % 2 ** 32]), rng.randrange(3)) + book_bytes(words) + bytes(rng.choice([0, 11]))
     if kind in (3, 4):
         return bent_record(rng, words)
@@ -321,10 +331,10 @@ def faults(shapes):
 SHAPES = {'small': 250, 'deep': 130, 'wide': 56, 'ties': 140, 'few': 150, 'unreached': 80, 'crossing': 110, 'many': 30, 'edge': 80, 'large': 10, 'full': 4,
           'stops': 250, 'stops_each_stage': 100, 'stops_everywhere': 100, 'sure_stops': 80, 'post_0_stops': 60, 'stops_unreached': 50, 'stops_barely': 80,
           'stops_and_ties': 150, 'stops_and_gains': 80, 'stops_deep': 80, 'stops_wide': 50, 'stops_edge': 80, 'stops_many': 20, 'stops_large': 10,
-          'stops_full': 4}
+          'stops_full': 4, 'six': 40, 'stops_six': 40}
 KINDS = {name: (weight, good_of(getattr(books, name))) for name, weight in SHAPES.items()}    # how often each is drawn, and how it is made
 KINDS.update({'fault %d' % n: (36, fault(n)) for n in range(1, 14)})
-KINDS.update({'vast': (16, vast), 'faults': (120, faults(FAULTY)), 'stops, faults': (120, faults(FAULTY_STOPS)), 'wild': (60, wild),
+KINDS.update({'seven': (40, seven), 'vast': (16, vast), 'faults': (120, faults(FAULTY)), 'stops, faults': (120, faults(FAULTY_STOPS)), 'wild': (60, wild),
               'bad counts': (60, bad_counts), 'noise': (140, noise), 'forged': (36, forged), 'longest': (4, longest), 'powers': (10, powers),
               'page': (200, some_page)})
 

@@ -1,4 +1,4 @@
-"""The rules of document 01 with the changes of document 02 (2.1), word by word and without any search: plans and days are enumerated.
+"""The rules of document 01 with the changes of document 02 (2.1, 2.3), word by word and without any search: plans and days are enumerated.
 
 Written from the documents alone. It shares nothing with the proved program, and is slow on purpose: every plan of the book is listed, every day
 of every plan is walked. Words below are those of the documents.
@@ -39,7 +39,7 @@ class Book:
 
 
 def lines_fit(words):
-    """Question 9: every r as allowed, all lines fit, exactly L used. Before stage H, r is from 0, a sure stop, to 16; at stage H it is 0."""
+    """Question 9: every r as allowed, all lines fit, exactly L used. Before stage H, r is from 0, a sure stop, to 6; at stage H it is 0."""
     stages, lines = words[1], words[2]
     sizes = words[3:4 + stages]
     posts = sum(sizes)
@@ -54,7 +54,7 @@ def lines_fit(words):
             r = left[line]
             if post >= last and r != 0:
                 return False
-            if post < last and not 0 <= r <= 16:
+            if post < last and not 0 <= r <= 6:
                 return False
             line += 1 + r
             if line > lines:

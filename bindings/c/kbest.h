@@ -1,7 +1,7 @@
 /* The K best plans of a tour book, for C and C++ on x86-64 Linux. Link with libkbest_c.a.
  *
  * A book is an array of signed 32-bit words: D, H, L, the posts of each stage, the choices of each post, then the left and the right column.
- * The weights of a choice before stage H add to at most D. What is missing is the chance, over D, that the tour stops after that choice: the day
+ * A choice has at most 6 next posts. The weights of a choice before stage H add to at most D. What is missing is the chance, over D, that the tour stops after that choice: the day
  * then costs the choices made so far. A choice without next posts before stage H is a sure stop.
  * A plan has one byte for each of the book's S posts: the choice of a reached post, 255 for any other.
  * Costs are exact and stand over D^H: divide by kbest_power(D, H) for the expected total cost.
@@ -25,8 +25,8 @@ extern "C" {
 #endif
 
 /* The version of this header, as text and as a number: the first x 10,000 + the second x 100 + the third. */
-#define KBEST_VERSION_TEXT "1.1.0"
-#define KBEST_VERSION 10100
+#define KBEST_VERSION_TEXT "1.2.0"
+#define KBEST_VERSION 10200
 
 /* The version of the library that is linked, as a number. */
 uint32_t kbest_version(void);
@@ -77,7 +77,7 @@ static inline const char *kbest_question(uint32_t number) {
     case KBEST_POSTS: return "is there one post at stage 0, are there 1 to 16 at every other, and at most 64 in all?";
     case KBEST_BOOK_LENGTH: return "is the length exactly 4 + H + S + 2L words?";
     case KBEST_CHOICES: return "has each post 1 to 8 choices, and 1 at stage H?";
-    case KBEST_LINES_USED: return "is every r from 0 to 16, and 0 at stage H, do all lines fit, and are exactly L used?";
+    case KBEST_LINES_USED: return "is every r from 0 to 6, and 0 at stage H, do all lines fit, and are exactly L used?";
     case KBEST_COST: return "is every cost from -100,000 to 100,000?";
     case KBEST_NEXT_POST: return "do the next posts of each choice rise strictly and lie within the next stage?";
     case KBEST_WEIGHT: return "is every weight from 1 to D, and does each choice's sum to at most D?";

@@ -11,8 +11,8 @@ import os
 import pathlib
 
 # of this module, as text and as the number that version() gives of the library
-VERSION_TEXT = '1.1.0'
-VERSION = 10100
+VERSION_TEXT = '1.2.0'
+VERSION = 10200
 
 BOOK_MOST = 4172
 POSTS_MOST = 64
@@ -30,7 +30,7 @@ QUESTIONS = {
     6: 'is there one post at stage 0, are there 1 to 16 at every other, and at most 64 in all?',
     7: 'is the length exactly 4 + H + S + 2L words?',
     8: 'has each post 1 to 8 choices, and 1 at stage H?',
-    9: 'is every r from 0 to 16, and 0 at stage H, do all lines fit, and are exactly L used?',
+    9: 'is every r from 0 to 6, and 0 at stage H, do all lines fit, and are exactly L used?',
     10: 'is every cost from -100,000 to 100,000?',
     11: 'do the next posts of each choice rise strictly and lie within the next stage?',
     12: "is every weight from 1 to D, and does each choice's sum to at most D?",

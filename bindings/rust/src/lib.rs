@@ -8,9 +8,9 @@ use std::fmt;
 use std::num::NonZeroU32;
 
 /// The version of this wrapper as text.
-pub const VERSION_TEXT: &str = "1.1.0";
+pub const VERSION_TEXT: &str = "1.2.0";
 /// The same as a number: the first × 10,000 + the second × 100 + the third.
-pub const VERSION: u32 = 10100;
+pub const VERSION: u32 = 10200;
 
 /// The longest book in words.
 pub const BOOK_MOST: usize = 4172;
@@ -33,7 +33,7 @@ pub const QUESTIONS: [&str; 21] = [
     "is there one post at stage 0, are there 1 to 16 at every other, and at most 64 in all?",
     "is the length exactly 4 + H + S + 2L words?",
     "has each post 1 to 8 choices, and 1 at stage H?",
-    "is every r from 0 to 16, and 0 at stage H, do all lines fit, and are exactly L used?",
+    "is every r from 0 to 6, and 0 at stage H, do all lines fit, and are exactly L used?",
     "is every cost from -100,000 to 100,000?",
     "do the next posts of each choice rise strictly and lie within the next stage?",
     "is every weight from 1 to D, and does each choice's sum to at most D?",

@@ -1,20 +1,20 @@
 -- What the thirteen questions say of a book that passes them all: of its sizes, of each state p, and of each action c of state p.
 -- Assumes nothing.
-use mathlib.Core.Path.{_≡_, sym, _∙_}
+use mathlib.Core.Path.{_≡_}
 use mathlib.Core.Bool.{Bool, true, false, cond}
 use Prim.Native.Nat.{ℕ, _+_, _*_, _^_, _≤_, _<_}
 use native.Mathlib.Nat.{le-trans}
 use native.Mathlib.Omega.{arith}
-use borrow.Author.Tests.{leb-true, eq-eqb}
+use borrow.Author.Tests.{leb-true, eq-eqb, ne-eqb}
 use lib.Dec.{leb, eqb}
 use lib.IntN.{natAbs}
 use Rattle.model.specs.Lists.{all, maxTo}
 use Rattle.model.specs.Model.{Words, word, scale, horizon, lineCount, stateCount, stage, actionCount, left, right}
 use Rattle.model.specs.Model.{branches, lineAfter, stateLine, actionLine}
-use Rattle.model.specs.Questions.{firstNo, mostLast, mostAt, branchesInside, countAllowed, countsAllowed, everyAction, branchesAllowed, linesAllowed}
-use Rattle.model.specs.Questions.{nextsAllowed, weightsAllowed, largestCost, costsBounded, sizeQuestions, actionQuestions, bookNumber}
-use Rattle.questions.specs.Ranges.{and-true, all-at, max-least, inside-range}
-use Rattle.questions.specs.FirstNo.{AllYes, passed, after, then-zero}
+use Rattle.model.specs.Questions.{firstNo, mostLast, mostAt, fewestBranches, mostBranches, branchesInside, countAllowed, countsAllowed, everyAction}
+use Rattle.model.specs.Questions.{branchesAllowed, linesAllowed, nextsAllowed, weightsAllowed, largestCost, costsBounded, sizeQuestions, actionQuestions, bookNumber}
+use Rattle.questions.specs.Ranges.{and-true, all-at, all-same, max-least, inside-range}
+use Rattle.questions.specs.FirstNo.{AllYes, passed, both-zero}
 use Rattle.questions.specs.Sizes.{Sized, sized}
 
 pub record Accepted (ws : Words) : Type 0 where
@@ -25,6 +25,7 @@ pub record Accepted (ws : Words) : Type 0 where
   pub counts-high : (p : ℕ) → p < stateCount ws → actionCount ws p ≤ 8
   -- 9: "is every r as allowed, do all their lines fit"
   pub branches-allowed : (p c : ℕ) → p < stateCount ws → c < actionCount ws p → branchesAllowed ws (stage ws p) (actionLine ws p c) ≡ true
+  pub branches-most : (p c : ℕ) → p < stateCount ws → c < actionCount ws p → stage ws p < horizon ws → branches ws (actionLine ws p c) ≤ mostBranches
   pub branches-last : (p c : ℕ) → p < stateCount ws → c < actionCount ws p → stage ws p ≡ horizon ws → branches ws (actionLine ws p c) ≡ 0
   pub lines-fit : (p c : ℕ) → p < stateCount ws → c < actionCount ws p → lineAfter ws (actionLine ws p c) ≤ lineCount ws
   -- 11: "Do the next posts of each choice rise strictly and lie within the next stage?"
@@ -60,10 +61,22 @@ each-action test ws e p c l k =
     all-at (actionCount ws p) (λ (c : ℕ). test ws (stage ws p) (actionLine ws p c))
     (all-at (stateCount ws) (λ (p : ℕ). all (actionCount ws p) (λ (c : ℕ). test ws (stage ws p) (actionLine ws p c))) e p l) c k
 
+-- tests that agree on every action give one answer
+pub every-same : (ws : Words) (test other : Words → ℕ → ℕ → Bool)
+    → ((p c : ℕ) → p < stateCount ws → c < actionCount ws p → test ws (stage ws p) (actionLine ws p c) ≡ other ws (stage ws p) (actionLine ws p c))
+    → everyAction test ws ≡ everyAction other ws
+unfolding everyAction
+every-same ws test other h = all-same (stateCount ws) _ _ (λ p l. all-same (actionCount ws p) _ _ (λ c k. h p c l k))
+
 module _ (ws : Words) (n j : ℕ) (e : branchesAllowed ws n j ≡ true) where
   branches-tests : (branchesInside (left ws j) n (horizon ws) ≡ true) × (leb (lineAfter ws j) (lineCount ws) ≡ true)
   unfolding branchesAllowed
   branches-tests = and-true (branchesInside (left ws j) n (horizon ws)) (leb (lineAfter ws j) (lineCount ws)) e
+
+  pub most-branches : n < horizon ws → branches ws j ≤ mostBranches
+  unfolding branches
+  most-branches h =
+      inside-range fewestBranches mostBranches (left ws j) (rw (ne-eqb n (horizon ws) (λ q. omega arith)) at (branches-tests .0)) .1
 
   no-branches : n ≡ horizon ws → branches ws j ≡ 0
   unfolding branches
@@ -72,7 +85,7 @@ module _ (ws : Words) (n j : ℕ) (e : branchesAllowed ws n j ≡ true) where
   fit : lineAfter ws j ≤ lineCount ws
   fit = leb-true (lineAfter ws j) (lineCount ws) (branches-tests .1)
 
-lines-say : (ws : Words) → linesAllowed ws ≡ true → everyAction branchesAllowed ws ≡ true
+pub lines-say : (ws : Words) → linesAllowed ws ≡ true → everyAction branchesAllowed ws ≡ true
 unfolding linesAllowed
 lines-say ws e = and-true (everyAction branchesAllowed ws) (eqb (stateLine ws (stateCount ws)) (lineCount ws)) e .0
 
@@ -98,6 +111,7 @@ accepted ws ok =
       counts-low = λ p l. count-range ws (y .0) p l .0;
       counts-high = λ p l. le-trans (count-range ws (y .0) p l .1) (most-bound (stage ws p) (horizon ws));
       branches-allowed = nine;
+      branches-most = λ p c l k. most-branches ws (stage ws p) (actionLine ws p c) (nine p c l k);
       branches-last = λ p c l k. no-branches ws (stage ws p) (actionLine ws p c) (nine p c l k);
       lines-fit = λ p c l k. fit ws (stage ws p) (actionLine ws p c) (nine p c l k);
       nexts-allowed = each-action nextsAllowed ws (y .1 .1 .1 .0);
@@ -107,9 +121,7 @@ accepted ws ok =
     }
   where
     both : (firstNo sizeQuestions ws ≡ 0) × (firstNo actionQuestions ws ≡ 0)
-    both =
-        then-zero (firstNo sizeQuestions ws) (firstNo actionQuestions ws)
-        (sym (after ws sizeQuestions actionQuestions (omega arith)) ∙ ok)
+    both = both-zero ws sizeQuestions (omega arith) actionQuestions ok
 
     y : AllYes actionQuestions ws
     y = passed ws actionQuestions (omega arith) (both .1)

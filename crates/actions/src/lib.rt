@@ -13,7 +13,7 @@ ghost use Rattle.actions.specs.Action.{nextAllowed, WeighedAs, actionNum
 // How many transitions an action of a state before stage H has.
 const FEWEST_BRANCHES: i32 = 0;
 
-const MOST_BRANCHES: i32 = 16;
+const MOST_BRANCHES: i32 = 6;
 
 // What an action costs, in seconds.
 const LEAST_COST: i32 = -100000;

@@ -8,7 +8,7 @@ ghost use Rattle.kbest_c.specs.Part.{shownOffset, shownLength};
 ghost use Rattle.kbest_c.specs.Version.{version};
 
 // The version in the file VERSION: its first number × 10,000 + its second × 100 + its third.
-const VERSION: u32 = 10100;
+const VERSION: u32 = 10200;
 
 // The version of the library that is linked.
 #[no_mangle]

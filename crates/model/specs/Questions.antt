@@ -1,5 +1,5 @@
 -- The questions 1 to 13 of a book. "Each is put to the whole input before the next. The first "no" gives its number; 0 means accepted."
--- Request 2.1 changes 9 and 12.
+-- Request 2.1 changes 9 and 12, request 2.3 changes 9.
 -- Assumes nothing.
 use Prim.Native.Nat.{ℕ, zero, suc, _+_, _*_, _^_}
 use mathlib.Core.Bool.{Bool, true, false, _&&_, _||_, cond}
@@ -43,12 +43,12 @@ mostAt n h = cond (eqb n h) mostLast 8
 abbrev pub countInside : ℤ → ℕ → ℕ → Bool
 countInside z n h = inside (pos 1) (pos (mostAt n h)) z
 
--- 2.1: "Before stage H, r may be 0"; at most 16; "with r = 0" at stage H
+-- 2.1: "Before stage H, r may be 0"; 2.3: "r is at most 6"; "with r = 0" at stage H
 abbrev pub fewestBranches : ℕ
 fewestBranches = 0
 
 abbrev pub mostBranches : ℕ
-mostBranches = 16
+mostBranches = 6
 
 abbrev pub branchesInside : ℤ → ℕ → ℕ → Bool
 branchesInside z n h = cond (eqb n h) (inside (pos 0) (pos 0) z) (inside (pos fewestBranches) (pos mostBranches) z)

@@ -1,31 +1,26 @@
--- The rules without stops: questions 9 and 12 and the days as document 01 has them, and the cost, the list and the record that rest on those days.
+-- The rules of document 01 before stops: its questions 9 and 12 and its days, and the cost, the list and the record that rest on those days.
 -- No contract cites these definitions.
 -- Assumes nothing.
 use Prim.Native.Nat.{ℕ, zero, suc, _+_}
 use mathlib.Core.Bool.{Bool, _&&_, _||_, cond}
 use mathlib.Core.List.{List, [], _∷_, _++_, map}
 use lib.IntN.{ℤ, pos}
-use lib.Dec.{eqb, leb}
+use lib.Dec.{eqb}
 use lib.ListN.{length, take}
 use Rattle.model.specs.Lists.{all, forEach, sorted}
 use Rattle.model.specs.Bytes.{bytes, signedBytes}
-use Rattle.model.specs.Model.{Words, Transition, Action, scale, horizon, lineCount, stateCount, left, right, branches, lineAfter, stateLine}
-use Rattle.model.specs.Questions.{Question, firstNo, inside, mostBranches, everyAction, weightSum, bookQuestions}
+use Rattle.model.specs.Model.{Words, Transition, Action, scale, horizon, right, branches}
+use Rattle.model.specs.Questions.{Question, firstNo, inside, everyAction, weightSum, bookQuestions}
 use Rattle.model.specs.Policy.{Policy, policies}
 use Rattle.model.specs.Path.{Path, totalCost, taken}
 use Rattle.model.specs.Order.{before}
+use Rattle.branch_limit.specs.Former.{linesWithin, formerMost}
 
 -- ---- the questions
 
--- 9: r from 1 on before stage H, "with r = 0" at stage H; "do all their lines fit"
-unfoldable pub baseBranches : Words → ℕ → ℕ → Bool
-baseBranches ws n j =
-    cond (eqb n (horizon ws)) (inside (pos 0) (pos 0) (left ws j)) (inside (pos 1) (pos mostBranches) (left ws j))
-    && leb (lineAfter ws j) (lineCount ws)
-
--- "and are exactly L lines used?"
-unfoldable pub baseLines : Words → Bool
-baseLines ws = everyAction baseBranches ws && eqb (stateLine ws (stateCount ws)) (lineCount ws)
+-- 9: "r from 1 to 16 before stage H"
+abbrev pub baseLines : Words → Bool
+baseLines ws = linesWithin 1 formerMost ws
 
 -- 12: "Is every weight from 1 to D, and does each choice's sum to exactly D (before stage H)?"
 unfoldable pub baseWeights : Words → ℕ → ℕ → Bool

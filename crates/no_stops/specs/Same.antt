@@ -1,22 +1,21 @@
--- "Books without stops give the same records.": where the weights of every action before stage H add to D, the questions give the same number as
--- without stops, and the paths, the costs, the list and the record are the same.
+-- "Books without stops give the same records.": where the weights of every action before stage H add to D, the paths, the costs, the list and the record
+-- are those of document 01; where also no action has more than 6 transitions (request 2.3), its questions give the same number.
 -- Assumes nothing.
 use mathlib.Core.Path.{_≡_, refl, sym, ap, ap₂, _∙_}
-use mathlib.Core.Bool.{Bool, true, false, not, _&&_, _||_, cond}
-use mathlib.Core.Logic.{_⊎_, inl, inr, _↔_}
+use mathlib.Core.Bool.{Bool, true, false, not, _&&_, _||_}
+use mathlib.Core.Logic.{_↔_}
 use mathlib.Core.List.{List, [], _∷_, _++_, map, append-nil}
 use Prim.Native.Nat.{ℕ, zero, suc, _+_, _^_, _≤_, _<_}
-use native.Mathlib.Nat.{eq-or-lt-of-le}
 use native.Mathlib.Omega.{arith}
-use borrow.Author.Tests.{eqb-true, eqb-false, eq-eqb, ne-eqb, le-leb, le-ltb}
+use borrow.Author.Tests.{eqb-true, eq-eqb, ne-eqb, le-leb, le-ltb}
 use lib.Dec.{T, eqb, leb}
 use lib.IntN.{ℤ, pos, negsuc, natAbs}
 use lib.Signed.{ltZ, mag}
 use lib.ListN.{take}
 use Rattle.model.specs.Lists.{all, forEach}
-use Rattle.model.specs.Model.{Words, Transition, Action, weightsOf, scale, horizon, lineCount, stateCount, stage, togo, actionCount, left, right}
-use Rattle.model.specs.Model.{branches, lineAfter, stateLine, actionLine, action, options}
-use Rattle.model.specs.Questions.{firstNo, andThen, inside, mostBranches, everyAction, branchesAllowed, linesAllowed, weightSum, weightsAllowed}
+use Rattle.model.specs.Model.{Words, Transition, Action, weightsOf, scale, horizon, stateCount, stage, togo, actionCount, left, right}
+use Rattle.model.specs.Model.{branches, actionLine, action, options}
+use Rattle.model.specs.Questions.{firstNo, inside, fewestBranches, mostBranches, branchesAllowed, linesAllowed, weightSum, weightsAllowed}
 use Rattle.model.specs.Questions.{sizeQuestions, actionQuestions, bookNumber}
 use Rattle.model.specs.Policy.{Policy, isPolicy, policies}
 use Rattle.model.specs.Path.{Path, totalCost, pathsFrom, stopsAfter, byteAt, taken, paths, policyCost}
@@ -27,16 +26,18 @@ use Rattle.laws.specs.Paths.{stepBy}
 use Rattle.laws.specs.Sorting.{sorted-same}
 use Rattle.laws.specs.Best.{Obeys}
 use Rattle.laws.specs.First.{policy-obeys}
-use Rattle.questions.specs.Ranges.{and-true, all-same}
-use Rattle.questions.specs.FirstNo.{AllYes, passed, after, then-zero, answers-same}
+use Rattle.questions.specs.Ranges.{and-true}
+use Rattle.questions.specs.FirstNo.{AllYes, passed, both-zero, rest-same, answers-same}
 use Rattle.questions.specs.Sizes.{sized}
-use Rattle.questions.specs.Stages.{of-stage}
-use Rattle.accepted.specs.Facts.{each-action}
+use Rattle.questions.specs.Stages.{stage-before}
+use Rattle.accepted.specs.Facts.{each-action, every-same}
 use Rattle.accepted.specs.Options.{option-below}
 use Rattle.accepted.specs.Shape.{policy-is, action-is, weights-read, no-weight, shape, togo-start}
 use Rattle.accepted.specs.Demands.{policies-are, in-list}
 use Rattle.record.specs.Demand2.{written-accepted}
-use Rattle.no_stops.specs.Base.{baseBranches, baseLines, baseWeights, baseQuestion, baseNumber, basePathsFrom, basePaths, baseCost, baseRanking}
+use Rattle.branch_limit.specs.Former.{branchesWithin, linesWithin, AtMost, formerMost}
+use Rattle.branch_limit.specs.Same.{lines-agree, inside-wider, at-most}
+use Rattle.no_stops.specs.Base.{baseLines, baseWeights, baseQuestion, baseNumber, basePathsFrom, basePaths, baseCost, baseRanking}
 use Rattle.no_stops.specs.Base.{baseCosts, baseRecord}
 
 -- the weights of every action before stage H, reached or not, add to D
@@ -50,24 +51,13 @@ from-one : (z : ℤ) (hi : ℕ) → 1 ≤ natAbs z → inside (pos 0) (pos hi) z
 from-one (pos n) hi h = rw (le-leb 0 n (omega arith), le-leb 1 n h)
 from-one (negsuc n) hi h = refl
 
--- tests that agree on every action give one answer
-every-same : (ws : Words) (test other : Words → ℕ → ℕ → Bool)
-    → ((p c : ℕ) → p < stateCount ws → c < actionCount ws p → test ws (stage ws p) (actionLine ws p c) ≡ other ws (stage ws p) (actionLine ws p c))
-    → everyAction test ws ≡ everyAction other ws
-unfolding everyAction
-every-same ws test other h = all-same (stateCount ws) _ _ (λ p l. all-same (actionCount ws p) _ _ (λ c k. h p c l k))
-
-module _ (ws : Words) (full : NoStops ws) (low : 1 ≤ scale ws) where
+module _ (ws : Words) (full : NoStops ws) (few : AtMost mostBranches ws) (low : 1 ≤ scale ws) where
   module _ (p c : ℕ) (l : p < stateCount ws) (k : c < actionCount ws p) where
     abbrev j : ℕ
     j = actionLine ws p c
 
     sum-full : eqb (stage ws p) (horizon ws) ≡ false → weightSum ws j ≡ scale ws
-    sum-full e = go (eq-or-lt-of-le (of-stage ws p l .within))
-      where
-        go : (stage ws p ≡ horizon ws) ⊎ (stage ws p < horizon ws) → weightSum ws j ≡ scale ws
-        go (inl q) = absurd (eqb-false (stage ws p) (horizon ws) e q)
-        go (inr h) = full p c l k h
+    sum-full e = full p c l k (stage-before ws p l e)
 
     some-branch : weightSum ws j ≡ scale ws → 1 ≤ branches ws j
     some-branch e = go (branches ws j) refl
@@ -76,15 +66,12 @@ module _ (ws : Words) (full : NoStops ws) (low : 1 ≤ scale ws) where
         go zero z = absurd (omega (arith, no-weight ws j z))
         go (suc r) z = omega arith
 
-    branches-same : baseBranches ws (stage ws p) j ≡ branchesAllowed ws (stage ws p) j
-    unfolding branchesAllowed baseBranches branches
-    branches-same = go (eqb (stage ws p) (horizon ws)) refl
-      where
-        go : (b : Bool) → eqb (stage ws p) (horizon ws) ≡ b
-            → (cond b (inside (pos 0) (pos 0) (left ws j)) (inside (pos 1) (pos mostBranches) (left ws j)) && leb (lineAfter ws j) (lineCount ws))
-            ≡ (cond b (inside (pos 0) (pos 0) (left ws j)) (inside (pos 0) (pos mostBranches) (left ws j)) && leb (lineAfter ws j) (lineCount ws))
-        go true e = refl
-        go false e = ap (λ (t : Bool). t && leb (lineAfter ws j) (lineCount ws)) (sym (from-one (left ws j) mostBranches (some-branch (sum-full e))))
+    -- an r of an action without a stop: not 0, so that both limits agree
+    branches-same : stage ws p < horizon ws → inside (pos 1) (pos formerMost) (left ws j) ≡ inside (pos fewestBranches) (pos mostBranches) (left ws j)
+    unfolding branches
+    branches-same h =
+        sym (inside-wider 1 mostBranches formerMost (left ws j) (few p c l k h) (omega arith))
+        ∙ sym (from-one (left ws j) mostBranches (some-branch (full p c l k h)))
 
     weights-same : baseWeights ws (stage ws p) j ≡ weightsAllowed ws (stage ws p) j
     unfolding weightsAllowed baseWeights
@@ -99,29 +86,22 @@ module _ (ws : Words) (full : NoStops ws) (low : 1 ≤ scale ws) where
         go false e = rw (sum-full e, eq-eqb (scale ws) (scale ws) refl, le-leb (scale ws) (scale ws) (omega arith))
 
   lines-same : baseLines ws ≡ linesAllowed ws
-  unfolding linesAllowed baseLines
-  lines-same =
-      ap (λ (t : Bool). t && eqb (stateLine ws (stateCount ws)) (lineCount ws)) (every-same ws baseBranches branchesAllowed branches-same)
+  unfolding linesAllowed branchesAllowed linesWithin branchesWithin
+  lines-same = lines-agree ws 1 formerMost fewestBranches mostBranches branches-same
 
   -- 8 to 13: only 9 and 12 are other questions
-  rest-same : firstNo (map baseQuestion actionQuestions) ws ≡ firstNo actionQuestions ws
-  rest-same =
+  actions-same : firstNo (map baseQuestion actionQuestions) ws ≡ firstNo actionQuestions ws
+  actions-same =
       answers-same ws baseQuestion actionQuestions
       (refl, refl, (refl, lines-same, (refl, refl, (refl, refl, (refl, every-same ws baseWeights weightsAllowed weights-same, (refl, refl, tt))))))
 
--- words without stops get the same number
-pub questions-same : (ws : Words) → NoStops ws → baseNumber ws ≡ bookNumber ws
+-- words without stops and within the limit get the same number
+pub questions-same : (ws : Words) → NoStops ws → AtMost mostBranches ws → baseNumber ws ≡ bookNumber ws
 unfolding baseNumber bookNumber
-questions-same ws full =
-    after ws sizeQuestions (map baseQuestion actionQuestions) (omega arith)
-    ∙ go (firstNo sizeQuestions ws) refl
-    ∙ sym (after ws sizeQuestions actionQuestions (omega arith))
-  where
-    go : (n : ℕ) → firstNo sizeQuestions ws ≡ n → andThen n (firstNo (map baseQuestion actionQuestions) ws) ≡ andThen n (firstNo actionQuestions ws)
-    go zero e = rest-same ws full (sized ws e .d-low)
-    go (suc n) e = refl
+questions-same ws full few =
+    rest-same ws sizeQuestions (omega arith) (map baseQuestion actionQuestions) actionQuestions (λ e. actions-same ws full few (sized ws e .d-low))
 
--- "does each choice's sum to exactly D (before stage H)?": a book that the rules without stops accept has none
+-- "does each choice's sum to exactly D (before stage H)?": a book that the rules of document 01 accept has no stops
 pub accepted-full : (ws : Words) → baseNumber ws ≡ 0 → NoStops ws
 unfolding baseNumber baseWeights
 accepted-full ws ok p c l k h =
@@ -131,8 +111,7 @@ accepted-full ws ok p c l k h =
     answers : AllYes (map baseQuestion actionQuestions) ws
     answers =
         passed ws (map baseQuestion actionQuestions) (omega arith)
-        (then-zero (firstNo sizeQuestions ws) (firstNo (map baseQuestion actionQuestions) ws)
-        (sym (after ws sizeQuestions (map baseQuestion actionQuestions) (omega arith)) ∙ ok) .1)
+        (both-zero ws sizeQuestions (omega arith) (map baseQuestion actionQuestions) ok .1)
 
     sum : (eqb (stage ws p) (horizon ws) || eqb (weightSum ws (actionLine ws p c)) (scale ws)) ≡ true
     sum =
@@ -140,11 +119,11 @@ accepted-full ws ok p c l k h =
         (eqb (stage ws p) (horizon ws) || eqb (weightSum ws (actionLine ws p c)) (scale ws))
         (each-action baseWeights ws (answers .1 .1 .1 .1 .0) p c l k) .1
 
--- so they accept exactly the accepted books without stops
-pub base-accepts : (ws : Words) → (baseNumber ws ≡ 0) ↔ ((bookNumber ws ≡ 0) × NoStops ws)
+-- so those within the limit that they accept are exactly the accepted books without stops
+pub base-accepts : (ws : Words) → ((baseNumber ws ≡ 0) × AtMost mostBranches ws) ↔ ((bookNumber ws ≡ 0) × NoStops ws)
 base-accepts ws = (
-  λ ok. let full = accepted-full ws ok in (sym (questions-same ws full) ∙ ok, full),
-  λ h. questions-same ws (h .1) ∙ h .0,
+  λ h. let full = accepted-full ws (h .0) in (sym (questions-same ws full (h .1)) ∙ h .0, full),
+  λ h. let few = at-most ws (h .0) in (questions-same ws (h .1) few ∙ h .0, few),
 )
 
 -- ---- the paths
@@ -219,9 +198,9 @@ module _ (ws : Words) (ok : bookNumber ws ≡ 0) (full : NoStops ws) where
     unfolding recordBytes listBytes baseRecord
     record-same = rw (list-same, costs-same)
 
--- a record that was written by the rules without stops is accepted
-pub still-accepted : (ws : Words) → baseNumber ws ≡ 0 → Every (λ z. mag z < 2 ^ 31) ws → (k : ℕ) → 1 ≤ k → k ≤ 64
+-- a record that was written by the rules of document 01, for a book within the limit, is accepted
+pub still-accepted : (ws : Words) → baseNumber ws ≡ 0 → AtMost mostBranches ws → Every (λ z. mag z < 2 ^ 31) ws → (k : ℕ) → 1 ≤ k → k ≤ 64
     → acceptNumber (baseRecord ws k) ≡ 0
-still-accepted ws base words k low high =
-    let h = base-accepts ws .0 base in
+still-accepted ws base few words k low high =
+    let h = base-accepts ws .0 (base, few) in
     ap acceptNumber (sym (record-same ws (h .0) (h .1) k)) ∙ written-accepted ws (h .0) words k low high .number

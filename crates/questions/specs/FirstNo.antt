@@ -79,3 +79,16 @@ then-yes n m e = rw e
 pub then-zero : (n m : ℕ) → andThen n m ≡ 0 → (n ≡ 0) × (m ≡ 0)
 then-zero zero m e = (refl, e)
 then-zero (suc n) m e = absurd (omega arith)
+
+module _ {A : Type 0} (x : A) (qs : List (Question A)) (numbered : Numbered qs) where
+  -- no "no" in two runs: none in either
+  pub both-zero : (rs : List (Question A)) → firstNo (qs ++ rs) x ≡ 0 → (firstNo qs x ≡ 0) × (firstNo rs x ≡ 0)
+  both-zero rs e = then-zero (firstNo qs x) (firstNo rs x) (sym (after x qs rs numbered) ∙ e)
+
+  -- runs that get one number wherever the run before them is passed
+  pub rest-same : (rs others : List (Question A)) → (firstNo qs x ≡ 0 → firstNo rs x ≡ firstNo others x) → firstNo (qs ++ rs) x ≡ firstNo (qs ++ others) x
+  rest-same rs others same = after x qs rs numbered ∙ go (firstNo qs x) same ∙ sym (after x qs others numbered)
+    where
+      go : (n : ℕ) → (n ≡ 0 → firstNo rs x ≡ firstNo others x) → andThen n (firstNo rs x) ≡ andThen n (firstNo others x)
+      go zero h = h refl
+      go (suc n) h = refl

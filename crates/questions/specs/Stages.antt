@@ -1,14 +1,15 @@
 -- Stages: a state that lies between a stage's first state and the next stage's first is of that stage.
 -- Assumes nothing.
 use mathlib.Core.Path.{_≡_, refl, sym, _∙_, subst}
+use mathlib.Core.Bool.{false}
 use mathlib.Core.Logic.{_⊎_, inl, inr}
 use Prim.Native.Nat.{ℕ, zero, suc, _+_, _-_, _≤_, _<_}
 use native.Mathlib.Nat.{eq-or-lt-of-le}
 use native.Mathlib.Decide.{decLt}
 use native.Mathlib.Numerals.{add-one}
 use native.Mathlib.Omega.{arith}
-use borrow.Author.Tests.{le-leb, lt-leb}
-use lib.Dec.{leb}
+use borrow.Author.Tests.{le-leb, lt-leb, eqb-false}
+use lib.Dec.{leb, eqb}
 use Rattle.model.specs.Lists.{sumTo, bit}
 use Rattle.model.specs.Model.{Words, horizon, stageSize, firstState, stateCount, stage}
 use Rattle.questions.specs.Ranges.{sum-mono, sum-step}
@@ -71,3 +72,11 @@ some-stage ws p h = look (horizon ws) (omega arith) h
 
 pub of-stage : (ws : Words) (p : ℕ) → p < stateCount ws → OfStage ws p (stage ws p)
 of-stage ws p h = let s = some-stage ws p h in subst (OfStage ws p) (sym (stage-is ws p (s .0) (s .1))) (s .1)
+
+-- a state that is not of stage H is of one before it
+pub stage-before : (ws : Words) (p : ℕ) → p < stateCount ws → eqb (stage ws p) (horizon ws) ≡ false → stage ws p < horizon ws
+stage-before ws p l e = go (eq-or-lt-of-le (of-stage ws p l .within))
+  where
+    go : (stage ws p ≡ horizon ws) ⊎ (stage ws p < horizon ws) → stage ws p < horizon ws
+    go (inl q) = absurd (eqb-false (stage ws p) (horizon ws) e q)
+    go (inr h) = h

@@ -1,0 +1,72 @@
+-- Question 9 with other limits of r, and the rules before request 2.3: the same calls with r at most 16.
+-- No contract cites these definitions.
+-- Assumes nothing.
+use Prim.Native.Nat.{ℕ, _≤_, _<_}
+use mathlib.Core.Bool.{Bool, _&&_, cond}
+use mathlib.Core.List.{List, map}
+use lib.IntN.{ℤ, pos}
+use lib.Dec.{eqb, leb}
+use lib.ListN.{length}
+use Rattle.model.specs.Lists.{forEach}
+use Rattle.model.specs.Model.{Words, horizon, lineCount, stateCount, stage, actionCount, left, branches, lineAfter, stateLine, actionLine}
+use Rattle.model.specs.Questions.{Question, firstNo, andThen, inside, fewestBranches, everyAction, bookQuestions}
+use Rattle.model.specs.Policy.{Policy}
+use Rattle.model.specs.Order.{ranking, rankingCosts}
+use Rattle.model.specs.Record.{recordBytes, carriedK, carriedBook, countQuestions, headQuestions, tailQuestions}
+use Rattle.model.specs.Calls.{ifAccepted, over, roomOf, roomQuestions, writeQuestions}
+
+-- ---- question 9 with r from lo to hi before stage H
+
+-- "is every r as allowed, do all their lines fit"; "with r = 0" at stage H
+unfoldable pub branchesWithin : ℕ → ℕ → Words → ℕ → ℕ → Bool
+branchesWithin lo hi ws n j =
+    cond (eqb n (horizon ws)) (inside (pos 0) (pos 0) (left ws j)) (inside (pos lo) (pos hi) (left ws j))
+    && leb (lineAfter ws j) (lineCount ws)
+
+-- "and are exactly L lines used?"
+unfoldable pub linesWithin : ℕ → ℕ → Words → Bool
+linesWithin lo hi ws = everyAction (branchesWithin lo hi) ws && eqb (stateLine ws (stateCount ws)) (lineCount ws)
+
+-- "no choice has more than 6 lines below its first", for any number: every action before stage H, reached or not, has at most m transitions
+abbrev pub AtMost : ℕ → Words → Type 0
+AtMost m ws = (p c : ℕ) → p < stateCount ws → c < actionCount ws p → stage ws p < horizon ws → branches ws (actionLine ws p c) ≤ m
+
+-- ---- the rules before request 2.3
+
+-- document 01: "r from 1 to 16 before stage H"; request 2.1: "r may be 0"
+abbrev pub formerMost : ℕ
+formerMost = 16
+
+-- a question of a book: 9 asks this, every other what it asks
+abbrev pub formerQuestion : Question Words → Question Words
+formerQuestion q = cond (eqb (q .number) 9) (record { number = 9; asks = linesWithin fewestBranches formerMost }) q
+
+-- the number of the first "no" of the questions 1 to 13, or 0
+unfoldable pub formerNumber : Words → ℕ
+formerNumber ws = firstNo (map formerQuestion bookQuestions) ws
+
+unfoldable pub formerAsked : Words → ℕ → ℕ
+formerAsked ws k = andThen (formerNumber ws) (firstNo countQuestions k)
+
+-- ranking: its number, and the two lent slices afterwards
+unfoldable pub formerRankNumber : Words → ℕ → List ℤ → List ℕ → ℕ
+formerRankNumber ws k costs plans = andThen (formerAsked ws k) (firstNo (roomQuestions ws) (roomOf k costs plans))
+
+unfoldable pub formerRankCosts : Words → ℕ → List ℤ → List ℕ → List ℤ
+formerRankCosts ws k costs plans = ifAccepted (formerRankNumber ws k costs plans) (over (rankingCosts ws k) costs) costs
+
+unfoldable pub formerRankPlans : Words → ℕ → List ℤ → List ℕ → List ℕ
+formerRankPlans ws k costs plans =
+    ifAccepted (formerRankNumber ws k costs plans) (over (forEach (λ (p : Policy). p) (ranking ws k)) plans) plans
+
+-- writing: its number, and the lent slice afterwards
+unfoldable pub formerWriteNumber : Words → ℕ → ℕ → ℕ
+formerWriteNumber ws k room = andThen (formerAsked ws k) (firstNo (writeQuestions ws k) room)
+
+unfoldable pub formerWriteRecord : Words → ℕ → List ℕ → List ℕ
+formerWriteRecord ws k slice = ifAccepted (formerWriteNumber ws k (length slice)) (over (recordBytes ws k) slice) slice
+
+-- accepting a record
+unfoldable pub formerAcceptNumber : List ℕ → ℕ
+formerAcceptNumber bs =
+    andThen (firstNo headQuestions bs) (andThen (formerAsked (carriedBook bs) (carriedK bs)) (firstNo tailQuestions bs))

@@ -1,0 +1,3 @@
+pub mod Former
+pub mod Rows
+pub mod Same

@@ -1,0 +1,142 @@
+-- "That figure becomes the limit": a book is accepted exactly if it was accepted before and no action has more transitions than the limit; one with more
+-- gets 9. "No filed record is affected": its number, its list and its bytes are the same.
+-- Assumes nothing.
+use mathlib.Core.Path.{_≡_, refl, sym, ap, _∙_}
+use mathlib.Core.Bool.{Bool, true, false, _&&_, cond}
+use mathlib.Core.Logic.{_↔_}
+use mathlib.Core.List.{List, map}
+use Prim.Native.Nat.{ℕ, _≤_, _<_}
+use native.Mathlib.Omega.{arith}
+use borrow.Author.Tests.{le-leb}
+use lib.Dec.{eqb, leb}
+use lib.IntN.{ℤ, pos, negsuc, natAbs}
+use Rattle.model.specs.Model.{Words, horizon, lineCount, stateCount, stage, actionCount, left, branches, lineAfter, stateLine, actionLine}
+use Rattle.model.specs.Questions.{firstNo, inside, fewestBranches, mostBranches, branchesAllowed, linesAllowed, sizeQuestions, actionQuestions}
+use Rattle.model.specs.Questions.{bookNumber}
+use Rattle.model.specs.Record.{carriedBook, askedNumber, acceptNumber}
+use Rattle.model.specs.Calls.{roomOf, rankNumber, rankCosts, rankPlans, writeNumber, writeRecord}
+use Rattle.questions.specs.FirstNo.{passes, fails, passed, after, then-yes, both-zero, rest-same, answers-same}
+use Rattle.questions.specs.Stages.{stage-before}
+use Rattle.accepted.specs.Facts.{each-action, every-same, most-branches, lines-say, accepted}
+use Rattle.record.specs.Passed.{accept-says}
+use Rattle.branch_limit.specs.Former.{branchesWithin, linesWithin, AtMost, formerMost, formerQuestion, formerNumber, formerAsked}
+use Rattle.branch_limit.specs.Former.{formerRankNumber, formerRankCosts, formerRankPlans, formerWriteNumber, formerWriteRecord, formerAcceptNumber}
+
+-- ---- question 9 with other limits
+
+-- limits that agree on each r before stage H
+pub lines-agree : (ws : Words) (lo hi from to : ℕ)
+    → ((p c : ℕ) → p < stateCount ws → c < actionCount ws p → stage ws p < horizon ws
+    → inside (pos lo) (pos hi) (left ws (actionLine ws p c)) ≡ inside (pos from) (pos to) (left ws (actionLine ws p c)))
+    → linesWithin lo hi ws ≡ linesWithin from to ws
+unfolding linesWithin branchesWithin
+lines-agree ws lo hi from to agree =
+    ap (λ (t : Bool). t && eqb (stateLine ws (stateCount ws)) (lineCount ws)) (every-same ws (branchesWithin lo hi) (branchesWithin from to) one)
+  where
+    one : (p c : ℕ) → p < stateCount ws → c < actionCount ws p
+        → branchesWithin lo hi ws (stage ws p) (actionLine ws p c) ≡ branchesWithin from to ws (stage ws p) (actionLine ws p c)
+    one p c l k = go (eqb (stage ws p) (horizon ws)) refl
+      where
+        r : ℤ
+        r = left ws (actionLine ws p c)
+
+        fit : Bool
+        fit = leb (lineAfter ws (actionLine ws p c)) (lineCount ws)
+
+        go : (b : Bool) → eqb (stage ws p) (horizon ws) ≡ b
+            → (cond b (inside (pos 0) (pos 0) r) (inside (pos lo) (pos hi) r) && fit) ≡ (cond b (inside (pos 0) (pos 0) r) (inside (pos from) (pos to) r) && fit)
+        go true e = refl
+        go false e = ap (λ (t : Bool). t && fit) (agree p c l k (stage-before ws p l e))
+
+-- a word that is at most one limit is at most any that is higher
+pub inside-wider : (lo hi to : ℕ) (z : ℤ) → natAbs z ≤ hi → hi ≤ to → inside (pos lo) (pos hi) z ≡ inside (pos lo) (pos to) z
+inside-wider lo hi to (pos n) h w = rw (le-leb n hi h, le-leb n to (omega arith))
+inside-wider lo hi to (negsuc n) h w = refl
+
+-- ---- the questions 1 to 13
+
+module _ (ws : Words) where
+  -- "r is at most 6"
+  pub at-most : bookNumber ws ≡ 0 → AtMost mostBranches ws
+  at-most ok = accepted ws ok .branches-most
+
+  -- words in which no r is above the limit get the same number as before
+  pub number-same : AtMost mostBranches ws → formerNumber ws ≡ bookNumber ws
+  unfolding formerNumber bookNumber linesAllowed branchesAllowed linesWithin branchesWithin branches
+  number-same few =
+      rest-same ws sizeQuestions (omega arith) (map formerQuestion actionQuestions) actionQuestions
+      (λ passed. answers-same ws formerQuestion actionQuestions
+      (refl, refl, (refl, lines, (refl, refl, (refl, refl, (refl, refl, (refl, refl, tt)))))))
+    where
+      lines : linesWithin fewestBranches formerMost ws ≡ linesAllowed ws
+      lines =
+          lines-agree ws fewestBranches formerMost fewestBranches mostBranches
+          (λ p c l k h. sym (inside-wider fewestBranches mostBranches formerMost (left ws (actionLine ws p c)) (few p c l k h) (omega arith)))
+
+  -- a book that is accepted was accepted before
+  pub accepted-before : bookNumber ws ≡ 0 → formerNumber ws ≡ 0
+  accepted-before ok = number-same (at-most ok) ∙ ok
+
+  -- the limit is all that changed
+  pub accepts-exactly : (bookNumber ws ≡ 0) ↔ ((formerNumber ws ≡ 0) × AtMost mostBranches ws)
+  accepts-exactly = (λ ok. (accepted-before ok, at-most ok), λ h. sym (number-same (h .1)) ∙ h .0)
+
+  -- "A row of 7, accepted before, gets 9."
+  pub row-refused : formerNumber ws ≡ 0 → (p c : ℕ) → p < stateCount ws → c < actionCount ws p → stage ws p < horizon ws
+      → mostBranches < branches ws (actionLine ws p c) → bookNumber ws ≡ 9
+  unfolding formerNumber bookNumber
+  row-refused before p c l k h wide =
+      after ws sizeQuestions actionQuestions (omega arith)
+      ∙ then-yes (firstNo sizeQuestions ws) (firstNo actionQuestions ws) (both .0)
+      ∙ passes ws _ _ (passed ws (map formerQuestion actionQuestions) (omega arith) (both .1) .0)
+      ∙ fails ws _ _ (refused (linesAllowed ws) refl)
+    where
+      both : (firstNo sizeQuestions ws ≡ 0) × (firstNo (map formerQuestion actionQuestions) ws ≡ 0)
+      both = both-zero ws sizeQuestions (omega arith) (map formerQuestion actionQuestions) before
+
+      refused : (b : Bool) → linesAllowed ws ≡ b → b ≡ false
+      refused true e =
+          let few = most-branches ws (stage ws p) (actionLine ws p c) (each-action branchesAllowed ws (lines-say ws e) p c l k) h in
+          absurd (omega arith)
+      refused false e = refl
+
+-- ---- the calls
+
+module _ (ws : Words) (few : AtMost mostBranches ws) (k : ℕ) where
+  pub asked-same : formerAsked ws k ≡ askedNumber ws k
+  unfolding formerAsked askedNumber
+  asked-same = rw (number-same ws few)
+
+  -- the same list
+  pub rank-same : (costs : List ℤ) (plans : List ℕ) → formerRankNumber ws k costs plans ≡ rankNumber ws (roomOf k costs plans)
+  unfolding formerRankNumber rankNumber
+  rank-same costs plans = rw asked-same
+
+  pub costs-same : (costs : List ℤ) (plans : List ℕ) → formerRankCosts ws k costs plans ≡ rankCosts ws k costs plans
+  unfolding formerRankCosts rankCosts
+  costs-same costs plans = rw (rank-same costs plans)
+
+  pub plans-same : (costs : List ℤ) (plans : List ℕ) → formerRankPlans ws k costs plans ≡ rankPlans ws k costs plans
+  unfolding formerRankPlans rankPlans
+  plans-same costs plans = rw (rank-same costs plans)
+
+  -- the same record bytes
+  pub write-same : (room : ℕ) → formerWriteNumber ws k room ≡ writeNumber ws k room
+  unfolding formerWriteNumber writeNumber
+  write-same room = rw asked-same
+
+  pub record-same : (slice : List ℕ) → formerWriteRecord ws k slice ≡ writeRecord ws k slice
+  unfolding formerWriteRecord writeRecord
+  record-same slice = rw (write-same _)
+
+-- ---- filed records
+
+module _ (bs : List ℕ) where
+  -- "No filed record is affected.": one whose book has no r above the limit gets the same number
+  pub accept-same : AtMost mostBranches (carriedBook bs) → formerAcceptNumber bs ≡ acceptNumber bs
+  unfolding formerAcceptNumber acceptNumber
+  accept-same few = rw (asked-same (carriedBook bs) few _)
+
+  -- one that is accepted was accepted before
+  pub accept-before : acceptNumber bs ≡ 0 → formerAcceptNumber bs ≡ 0
+  accept-before ok = accept-same (at-most (carriedBook bs) (accept-says bs ok .asked .ok)) ∙ ok
