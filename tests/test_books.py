@@ -26,6 +26,12 @@ def sums(words):
     return [book.scale - ref.missing_part(book, post, c) for post, c in books.deciding(book)]
 
 
+def rows(words):
+    """How many next posts each choice before stage H has."""
+    book = ref.Book(words)
+    return [len(book.next_posts(post, c)) for post, c in books.deciding(book)]
+
+
 def costs(words):
     return [cost for here in ref.Book(words).choices for cost, _ in here]
 
@@ -76,6 +82,17 @@ class Shapes(unittest.TestCase):
                 self.assertGreater(numbers.count(0), 40)
             else:
                 self.assertEqual({*numbers}, {0}, shape.__name__)
+
+    def test_large(self):
+        for words in drawn(books.large, 5):
+            self.assertEqual((ref.check(words), ref.Book(words).posts, words[2]), (0, 64, 2048))
+
+    def test_rows(self):
+        """Rows of 6 next posts are many, and none is longer, in the other shapes too."""
+        found = [r for words in drawn(books.six, 100) for r in rows(words)]
+        self.assertGreater(found.count(6), len(found) / 2)
+        for shape in books.SHAPES + self.LARGE + self.LARGE_STOPS:
+            self.every(shape, 5, lambda words: max(rows(words)) <= 6)
 
     def test_ties(self):
         """In many books two plans tie, one of which stops where the other goes on."""
@@ -143,6 +160,18 @@ class Days(unittest.TestCase):
 
 
 class Faults(unittest.TestCase):
+    def test_seven(self):
+        """A row of 7 next posts or more gets 9. One of 7 lacks nothing else: with a line less the book is accepted."""
+        sevens = 0
+        for words in drawn(books.seven, 200):
+            self.assertEqual(ref.check(words), 9)
+            book = ref.Book(words)
+            (post, c, lines), = ((post, c, book.choices[post][c][1]) for post, c in books.deciding(book) if len(book.choices[post][c][1]) > 6)
+            if len(lines) == 7:
+                self.assertEqual(ref.check(books.with_row(words, post, c, lines[1:])), 0)
+                sevens += 1
+        self.assertGreater(sevens, 60)
+
     def test_numbers(self):
         """Faults for the questions 9 and 12 are faults, but for some weights that only stop."""
         for n in (9, 12):

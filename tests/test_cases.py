@@ -48,6 +48,17 @@ class Stored(unittest.TestCase):
                 found[name, any(books.stopping(words) for words in accepted)] += 1
         self.assertGreater(min(found.values()), 30, found)
 
+    def test_rows(self):
+        """At each of four stages every call accepts a row of 6 next posts, and gives 9 for one of 7."""
+        for n in range(4):
+            for r, number in ((6, 0), (7, 9)):
+                title, found = ' question 9: %d next posts at stage %d of 4' % (r, n), {name: set() for name in NUMBERS}
+                for c, text in [line for case, lines in zip(self.cases, self.of_case) if case.title.endswith(title) for line in lines]:
+                    if c.kind in NUMBERS:
+                        found[c.kind].add(int(text.split()[1]))
+                for name, numbers in found.items():
+                    self.assertTrue(number in numbers if r == 6 else numbers == {number}, (title, name, numbers))
+
 
 if __name__ == '__main__':
     unittest.main()

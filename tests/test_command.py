@@ -199,6 +199,15 @@ class RoundTrips(Folder):
         for words, k in accepted_books(8):
             self.round_trip(words, k)
 
+    def test_rows(self):
+        """Six next posts; seven, which have a text form too, get 9, and so does the record that was written for them while they were allowed."""
+        six, seven = (cases.row_at(1, *cases.to_first(9, r)) for r in (6, 7))
+        self.round_trip(six, 3)
+        self.refused(seven, 3, 9)
+        self.checked('book', text(seven), 9)
+        self.checked('record', ref.record(seven, 3), 9)
+        self.assertIn(b'is every r from 0 to 6,', reason(9))
+
 
 class Refusals(Folder):
     """Status 1: the number on standard output, the question on standard error, and no file."""
