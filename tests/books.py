@@ -186,7 +186,7 @@ def large(rng):
 
 
 def full(rng):
-    """Sixteen posts a stage, and up to 6 next posts a choice: few plans, hundreds of days."""
+    """Sixteen posts a stage, and up to 6 next posts a choice: few plans, up to 1,296 days."""
     sizes = [1, 16, 16, 16, rng.choice([1, 15])]
     scale = rng.choice([6, 7, 100])
     return fill(rng, scale, sizes, 2, MOST_NEXT, costs_within(rng, most_cost(scale, 4)), rng.choice([1, 2, 8]))

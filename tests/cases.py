@@ -494,7 +494,6 @@ def row_record_cases():
 DRAWN = {'small': 6, 'deep': 2, 'wide': 1, 'ties': 5, 'few': 3, 'unreached': 3, 'crossing': 6, 'many': 1, 'edge': 2, 'full': 1, 'faults': 6, 'noise': 8}
 DRAWN_STOPS = {'stops': 3, 'post_0_stops': 1, 'stops_deep': 1, 'stops_each_stage': 1, 'stops_everywhere': 1, 'stops_edge': 2, 'stops_unreached': 1,
                'sure_stops': 1, 'stops_barely': 1, 'stops_and_ties': 2, 'stops_and_gains': 1, 'stops_wide': 1, 'stops, faults': 3}
-
 DRAWN_ROWS = {'six': 2, 'stops_six': 2, 'seven': 6}
 
 
