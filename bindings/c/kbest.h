@@ -1,8 +1,8 @@
 /* The K best plans of a tour book, for C and C++ on x86-64 Linux. Link with libkbest_c.a.
  *
  * A book is an array of signed 32-bit words: D, H, L, the posts of each stage, the choices of each post, then the left and the right column.
- * A choice has at most 6 next posts. The weights of a choice before stage H add to at most D. What is missing is the chance, over D, that the tour stops after that choice: the day
- * then costs the choices made so far. A choice without next posts before stage H is a sure stop.
+ * A choice has at most 6 next posts. The weights of a choice before stage H add to at most D. What is missing is the chance, over D, that the tour
+ * stops after that choice: the day then costs the choices made so far. A choice without next posts before stage H is a sure stop.
  * A plan has one byte for each of the book's S posts: the choice of a reached post, 255 for any other.
  * Costs are exact and stand over D^H: divide by kbest_power(D, H) for the expected total cost.
  *
