@@ -1,4 +1,4 @@
--- Question 9 with other limits of r, and the rules before request 2.3: the same calls with r at most 16.
+-- Books within the limit of request 2.3, question 9 with other limits of r, and the rules before that request: the same calls with r at most 16.
 -- No contract cites these definitions.
 -- Assumes nothing.
 use Prim.Native.Nat.{ℕ, _≤_, _<_}
@@ -9,11 +9,16 @@ use lib.Dec.{eqb, leb}
 use lib.ListN.{length}
 use Rattle.model.specs.Lists.{forEach}
 use Rattle.model.specs.Model.{Words, horizon, lineCount, stateCount, stage, actionCount, left, branches, lineAfter, stateLine, actionLine}
-use Rattle.model.specs.Questions.{Question, firstNo, andThen, inside, fewestBranches, everyAction, bookQuestions}
+use Rattle.model.specs.Questions.{Question, firstNo, andThen, inside, fewestBranches, mostBranches, everyAction, bookQuestions}
 use Rattle.model.specs.Policy.{Policy}
 use Rattle.model.specs.Order.{ranking, rankingCosts}
 use Rattle.model.specs.Record.{recordBytes, carriedK, carriedBook, countQuestions, headQuestions, tailQuestions}
 use Rattle.model.specs.Calls.{ifAccepted, over, roomOf, roomQuestions, writeQuestions}
+
+-- "no choice has more than 6 lines below its first": no action before stage H, reached or not, has more transitions than the limit
+abbrev pub WithinLimit : Words → Type 0
+WithinLimit ws =
+    (p c : ℕ) → p < stateCount ws → c < actionCount ws p → stage ws p < horizon ws → branches ws (actionLine ws p c) ≤ mostBranches
 
 -- ---- question 9 with r from lo to hi before stage H
 
@@ -26,10 +31,6 @@ branchesWithin lo hi ws n j =
 -- "and are exactly L lines used?"
 unfoldable pub linesWithin : ℕ → ℕ → Words → Bool
 linesWithin lo hi ws = everyAction (branchesWithin lo hi) ws && eqb (stateLine ws (stateCount ws)) (lineCount ws)
-
--- "no choice has more than 6 lines below its first", for any number: every action before stage H, reached or not, has at most m transitions
-abbrev pub AtMost : ℕ → Words → Type 0
-AtMost m ws = (p c : ℕ) → p < stateCount ws → c < actionCount ws p → stage ws p < horizon ws → branches ws (actionLine ws p c) ≤ m
 
 -- ---- the rules before request 2.3
 

@@ -5,21 +5,21 @@ use mathlib.Core.Path.{_≡_, refl, sym, ap, _∙_}
 use mathlib.Core.Bool.{Bool, true, false, _&&_, cond}
 use mathlib.Core.Logic.{_↔_}
 use mathlib.Core.List.{List, map}
-use Prim.Native.Nat.{ℕ, _≤_, _<_}
+use Prim.Native.Nat.{ℕ, _<_}
 use native.Mathlib.Omega.{arith}
-use borrow.Author.Tests.{le-leb}
 use lib.Dec.{eqb, leb}
-use lib.IntN.{ℤ, pos, negsuc, natAbs}
+use lib.IntN.{ℤ, pos}
 use Rattle.model.specs.Model.{Words, horizon, lineCount, stateCount, stage, actionCount, left, branches, lineAfter, stateLine, actionLine}
 use Rattle.model.specs.Questions.{firstNo, inside, fewestBranches, mostBranches, branchesAllowed, linesAllowed, sizeQuestions, actionQuestions}
 use Rattle.model.specs.Questions.{bookNumber}
 use Rattle.model.specs.Record.{carriedBook, askedNumber, acceptNumber}
 use Rattle.model.specs.Calls.{roomOf, rankNumber, rankCosts, rankPlans, writeNumber, writeRecord}
+use Rattle.questions.specs.Ranges.{inside-wider}
 use Rattle.questions.specs.FirstNo.{passes, fails, passed, after, then-yes, both-zero, rest-same, answers-same}
 use Rattle.questions.specs.Stages.{stage-before}
 use Rattle.accepted.specs.Facts.{each-action, every-same, most-branches, lines-say, accepted}
 use Rattle.record.specs.Passed.{accept-says}
-use Rattle.branch_limit.specs.Former.{branchesWithin, linesWithin, AtMost, formerMost, formerQuestion, formerNumber, formerAsked}
+use Rattle.branch_limit.specs.Former.{branchesWithin, linesWithin, WithinLimit, formerMost, formerQuestion, formerNumber, formerAsked}
 use Rattle.branch_limit.specs.Former.{formerRankNumber, formerRankCosts, formerRankPlans, formerWriteNumber, formerWriteRecord, formerAcceptNumber}
 
 -- ---- question 9 with other limits
@@ -48,20 +48,15 @@ lines-agree ws lo hi from to agree =
         go true e = refl
         go false e = ap (λ (t : Bool). t && fit) (agree p c l k (stage-before ws p l e))
 
--- a word that is at most one limit is at most any that is higher
-pub inside-wider : (lo hi to : ℕ) (z : ℤ) → natAbs z ≤ hi → hi ≤ to → inside (pos lo) (pos hi) z ≡ inside (pos lo) (pos to) z
-inside-wider lo hi to (pos n) h w = rw (le-leb n hi h, le-leb n to (omega arith))
-inside-wider lo hi to (negsuc n) h w = refl
-
 -- ---- the questions 1 to 13
 
 module _ (ws : Words) where
   -- "r is at most 6"
-  pub at-most : bookNumber ws ≡ 0 → AtMost mostBranches ws
-  at-most ok = accepted ws ok .branches-most
+  pub within : bookNumber ws ≡ 0 → WithinLimit ws
+  within ok = accepted ws ok .branches-most
 
   -- words in which no r is above the limit get the same number as before
-  pub number-same : AtMost mostBranches ws → formerNumber ws ≡ bookNumber ws
+  pub number-same : WithinLimit ws → formerNumber ws ≡ bookNumber ws
   unfolding formerNumber bookNumber linesAllowed branchesAllowed linesWithin branchesWithin branches
   number-same few =
       rest-same ws sizeQuestions (omega arith) (map formerQuestion actionQuestions) actionQuestions
@@ -75,11 +70,11 @@ module _ (ws : Words) where
 
   -- a book that is accepted was accepted before
   pub accepted-before : bookNumber ws ≡ 0 → formerNumber ws ≡ 0
-  accepted-before ok = number-same (at-most ok) ∙ ok
+  accepted-before ok = number-same (within ok) ∙ ok
 
   -- the limit is all that changed
-  pub accepts-exactly : (bookNumber ws ≡ 0) ↔ ((formerNumber ws ≡ 0) × AtMost mostBranches ws)
-  accepts-exactly = (λ ok. (accepted-before ok, at-most ok), λ h. sym (number-same (h .1)) ∙ h .0)
+  pub accepts-exactly : (bookNumber ws ≡ 0) ↔ ((formerNumber ws ≡ 0) × WithinLimit ws)
+  accepts-exactly = (λ ok. (accepted-before ok, within ok), λ h. sym (number-same (h .1)) ∙ h .0)
 
   -- "A row of 7, accepted before, gets 9."
   pub row-refused : formerNumber ws ≡ 0 → (p c : ℕ) → p < stateCount ws → c < actionCount ws p → stage ws p < horizon ws
@@ -102,7 +97,7 @@ module _ (ws : Words) where
 
 -- ---- the calls
 
-module _ (ws : Words) (few : AtMost mostBranches ws) (k : ℕ) where
+module _ (ws : Words) (few : WithinLimit ws) (k : ℕ) where
   pub asked-same : formerAsked ws k ≡ askedNumber ws k
   unfolding formerAsked askedNumber
   asked-same = rw (number-same ws few)
@@ -133,10 +128,10 @@ module _ (ws : Words) (few : AtMost mostBranches ws) (k : ℕ) where
 
 module _ (bs : List ℕ) where
   -- "No filed record is affected.": one whose book has no r above the limit gets the same number
-  pub accept-same : AtMost mostBranches (carriedBook bs) → formerAcceptNumber bs ≡ acceptNumber bs
+  pub accept-same : WithinLimit (carriedBook bs) → formerAcceptNumber bs ≡ acceptNumber bs
   unfolding formerAcceptNumber acceptNumber
   accept-same few = rw (asked-same (carriedBook bs) few _)
 
   -- one that is accepted was accepted before
   pub accept-before : acceptNumber bs ≡ 0 → formerAcceptNumber bs ≡ 0
-  accept-before ok = accept-same (at-most (carriedBook bs) (accept-says bs ok .asked .ok)) ∙ ok
+  accept-before ok = accept-same (within (carriedBook bs) (accept-says bs ok .asked .ok)) ∙ ok

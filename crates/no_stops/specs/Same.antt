@@ -26,7 +26,7 @@ use Rattle.laws.specs.Paths.{stepBy}
 use Rattle.laws.specs.Sorting.{sorted-same}
 use Rattle.laws.specs.Best.{Obeys}
 use Rattle.laws.specs.First.{policy-obeys}
-use Rattle.questions.specs.Ranges.{and-true}
+use Rattle.questions.specs.Ranges.{and-true, inside-wider}
 use Rattle.questions.specs.FirstNo.{AllYes, passed, both-zero, rest-same, answers-same}
 use Rattle.questions.specs.Sizes.{sized}
 use Rattle.questions.specs.Stages.{stage-before}
@@ -35,8 +35,8 @@ use Rattle.accepted.specs.Options.{option-below}
 use Rattle.accepted.specs.Shape.{policy-is, action-is, weights-read, no-weight, shape, togo-start}
 use Rattle.accepted.specs.Demands.{policies-are, in-list}
 use Rattle.record.specs.Demand2.{written-accepted}
-use Rattle.branch_limit.specs.Former.{branchesWithin, linesWithin, AtMost, formerMost}
-use Rattle.branch_limit.specs.Same.{lines-agree, inside-wider, at-most}
+use Rattle.branch_limit.specs.Former.{branchesWithin, linesWithin, WithinLimit, formerMost}
+use Rattle.branch_limit.specs.Same.{lines-agree, within}
 use Rattle.no_stops.specs.Base.{baseLines, baseWeights, baseQuestion, baseNumber, basePathsFrom, basePaths, baseCost, baseRanking}
 use Rattle.no_stops.specs.Base.{baseCosts, baseRecord}
 
@@ -51,7 +51,7 @@ from-one : (z : ℤ) (hi : ℕ) → 1 ≤ natAbs z → inside (pos 0) (pos hi) z
 from-one (pos n) hi h = rw (le-leb 0 n (omega arith), le-leb 1 n h)
 from-one (negsuc n) hi h = refl
 
-module _ (ws : Words) (full : NoStops ws) (few : AtMost mostBranches ws) (low : 1 ≤ scale ws) where
+module _ (ws : Words) (full : NoStops ws) (few : WithinLimit ws) (low : 1 ≤ scale ws) where
   module _ (p c : ℕ) (l : p < stateCount ws) (k : c < actionCount ws p) where
     abbrev j : ℕ
     j = actionLine ws p c
@@ -96,7 +96,7 @@ module _ (ws : Words) (full : NoStops ws) (few : AtMost mostBranches ws) (low : 
       (refl, refl, (refl, lines-same, (refl, refl, (refl, refl, (refl, every-same ws baseWeights weightsAllowed weights-same, (refl, refl, tt))))))
 
 -- words without stops and within the limit get the same number
-pub questions-same : (ws : Words) → NoStops ws → AtMost mostBranches ws → baseNumber ws ≡ bookNumber ws
+pub questions-same : (ws : Words) → NoStops ws → WithinLimit ws → baseNumber ws ≡ bookNumber ws
 unfolding baseNumber bookNumber
 questions-same ws full few =
     rest-same ws sizeQuestions (omega arith) (map baseQuestion actionQuestions) actionQuestions (λ e. actions-same ws full few (sized ws e .d-low))
@@ -120,10 +120,10 @@ accepted-full ws ok p c l k h =
         (each-action baseWeights ws (answers .1 .1 .1 .1 .0) p c l k) .1
 
 -- so those within the limit that they accept are exactly the accepted books without stops
-pub base-accepts : (ws : Words) → ((baseNumber ws ≡ 0) × AtMost mostBranches ws) ↔ ((bookNumber ws ≡ 0) × NoStops ws)
+pub base-accepts : (ws : Words) → ((baseNumber ws ≡ 0) × WithinLimit ws) ↔ ((bookNumber ws ≡ 0) × NoStops ws)
 base-accepts ws = (
   λ h. let full = accepted-full ws (h .0) in (sym (questions-same ws full (h .1)) ∙ h .0, full),
-  λ h. let few = at-most ws (h .0) in (questions-same ws (h .1) few ∙ h .0, few),
+  λ h. let few = within ws (h .0) in (questions-same ws (h .1) few ∙ h .0, few),
 )
 
 -- ---- the paths
@@ -199,7 +199,7 @@ module _ (ws : Words) (ok : bookNumber ws ≡ 0) (full : NoStops ws) where
     record-same = rw (list-same, costs-same)
 
 -- a record that was written by the rules of document 01, for a book within the limit, is accepted
-pub still-accepted : (ws : Words) → baseNumber ws ≡ 0 → AtMost mostBranches ws → Every (λ z. mag z < 2 ^ 31) ws → (k : ℕ) → 1 ≤ k → k ≤ 64
+pub still-accepted : (ws : Words) → baseNumber ws ≡ 0 → WithinLimit ws → Every (λ z. mag z < 2 ^ 31) ws → (k : ℕ) → 1 ≤ k → k ≤ 64
     → acceptNumber (baseRecord ws k) ≡ 0
 still-accepted ws base few words k low high =
     let h = base-accepts ws .0 (base, few) in

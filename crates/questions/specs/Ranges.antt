@@ -7,7 +7,7 @@ use Prim.Native.Nat.{ℕ, zero, suc, _+_, _≤_, _<_, max}
 use native.Mathlib.Nat.{eq-or-lt-of-le}
 use native.Mathlib.Numerals.{add-one}
 use native.Mathlib.Omega.{arith}
-use borrow.Author.Tests.{leb-true}
+use borrow.Author.Tests.{leb-true, le-leb}
 use lib.Dec.{leb}
 use lib.IntN.{ℤ, pos, negsuc, natAbs}
 use Rattle.model.specs.Lists.{all, sumTo, maxTo}
@@ -87,3 +87,8 @@ max-least (suc n) f i h = go (split i n h) (max-least n f i)
 pub inside-range : (lo hi : ℕ) (z : ℤ) → inside (pos lo) (pos hi) z ≡ true → (lo ≤ natAbs z) × (natAbs z ≤ hi)
 inside-range lo hi (pos n) e = let p = and-true (leb lo n) (leb n hi) e in (leb-true lo n (p .0), leb-true n hi (p .1))
 inside-range lo hi (negsuc n) e = let z : _≡_ {A = ℕ} 0 1 = cc in absurd (omega arith)
+
+-- a word that is at most one limit is at most any that is higher
+pub inside-wider : (lo hi to : ℕ) (z : ℤ) → natAbs z ≤ hi → hi ≤ to → inside (pos lo) (pos hi) z ≡ inside (pos lo) (pos to) z
+inside-wider lo hi to (pos n) h w = rw (le-leb n hi h, le-leb n to (omega arith))
+inside-wider lo hi to (negsuc n) h w = refl
