@@ -1,0 +1,4 @@
+mod Lent
+mod Rider
+mod Ranked
+mod Looked

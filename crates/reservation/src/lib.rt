@@ -1,0 +1,185 @@
+// Reservations: ranks of one accepted record, for sixteen riders. A rank is held on asking and theirs on committing. Each call takes a desk by value
+// and gives the next.
+ghost use mathlib.Core.Path.{_≡_};
+ghost use Prim.Native.Nat.{_<_};
+ghost use mathlib.Core.Bool.{not, _||_};
+ghost use lib.Dec.{eqb};
+ghost use lib.ListN.{replicate};
+ghost use Rattle.model.specs.Questions.{firstNo};
+ghost use Rattle.reservation.specs.Reservations.{heldBy, committedBy, free, askQuestions, openFor, holding, answer, asking, committing, cancelling};
+
+// How many riders there are.
+const RIDERS: usize = 16;
+
+// Which rank of the record is whose.
+#[repr(C)]
+pub struct Desk {
+    // how many plans the record lists; 0 before a record is opened
+    pub k: usize,
+    // by rider: the rank held, 0 none
+    pub held: [usize; 16],
+    // by rider: the rank committed, 0 none
+    pub committed: [usize; 16],
+}
+
+// The number of a call and the desk afterwards.
+pub struct Answer {
+    pub no: u32,
+    pub desk: Desk,
+}
+
+// No rank for any rider.
+fn no_ranks() -> [usize; 16]
+    ensures { λ r. ⌜ r ≡ replicate 16 0 ⌝ }
+{
+    [0; 16]
+}
+
+// A desk for k plans, with nothing held or committed.
+fn open_for(k: usize) -> Desk
+    ensures { λ r. ⌜ r ≡ openFor k ⌝ }
+{
+    Desk {
+        k: k,
+        held: no_ranks(),
+        committed: no_ranks(),
+    }
+}
+
+// Does a rider with these two ranks leave the rank to the asker? The asker does.
+fn leaves(held: usize, committed: usize, rank: usize, asker: bool) -> bool
+    ensures { λ r. ⌜ r ≡ (not (eqb held rank || eqb committed rank) || asker) ⌝ }
+{
+    if held == rank {
+        return asker;
+    }
+    if committed == rank {
+        return asker;
+    }
+    true
+}
+
+impl Desk {
+    // A desk that no record was opened at.
+    pub fn fresh() -> Desk
+        ensures { λ r. ⌜ r ≡ openFor 0 ⌝ }
+    {
+        open_for(0)
+    }
+
+    // The rank that a rider holds, 0 none.
+    pub fn held_by(self, rider: usize) -> usize
+        ensures { λ r. ⌜ r ≡ heldBy self rider ⌝ }
+    {
+        if rider < RIDERS { self.held[rider] } else { 0 }
+    }
+
+    // The rank that a rider has committed to, 0 none.
+    pub fn committed_by(self, rider: usize) -> usize
+        ensures { λ r. ⌜ r ≡ committedBy self rider ⌝ }
+    {
+        if rider < RIDERS {
+            self.committed[rider]
+        } else {
+            0
+        }
+    }
+
+    // Is the rank with no other rider?
+    fn is_free(self, rider: usize, rank: usize) -> bool
+        ensures { λ r. ⌜ r ≡ free self rider rank ⌝ }
+    {
+        let mut i: usize = 0;
+        while i < RIDERS {
+            if !leaves(self.held[i], self.committed[i], rank, i == rider) {
+                return false;
+            }
+            i = i + 1;
+        }
+        true
+    }
+
+    // The number of asking.
+    fn ask_number(self, rider: usize, rank: usize) -> u32
+        ensures { λ r. ⌜ r ≡ firstNo (askQuestions self rank) rider ⌝ }
+    {
+        if rider >= RIDERS {
+            return 22;
+        }
+        if rank < 1 {
+            return 23;
+        }
+        if rank > self.k {
+            return 23;
+        }
+        if self.committed_by(rider) != 0 {
+            return 24;
+        }
+        if self.is_free(rider, rank) { 0 } else { 24 }
+    }
+
+    // The rider holds the rank, and no other; 0 drops the hold.
+    fn holding(mut self, rider: usize, rank: usize) -> Desk
+        requires { ⌜ rider < 16 ⌝ }
+        ensures { λ r. ⌜ r ≡ holding self rider rank ⌝ }
+    {
+        self.held[rider] = rank;
+        self
+    }
+
+    // A granted ask drops the rider's earlier hold.
+    pub fn asking(self, rider: usize, rank: usize) -> Answer
+        ensures { λ a. ⌜ a ≡ asking self rider rank ⌝ }
+    {
+        let no = self.ask_number(rider, rank);
+        if no != 0 {
+            return Answer { no: no, desk: self };
+        }
+        Answer {
+            no: 0,
+            desk: self.holding(rider, rank),
+        }
+    }
+
+    // The rank held becomes the rider's, and the hold ends.
+    pub fn committing(self, rider: usize) -> Answer
+        ensures { λ a. ⌜ a ≡ committing self rider ⌝ }
+    {
+        if rider >= RIDERS {
+            return Answer { no: 22, desk: self };
+        }
+        let rank = self.held_by(rider);
+        if rank == 0 {
+            return Answer { no: 24, desk: self };
+        }
+        let mut next = self.holding(rider, 0);
+        next.committed[rider] = rank;
+        Answer { no: 0, desk: next }
+    }
+
+    // A hold is dropped, a commitment never.
+    pub fn cancelling(self, rider: usize) -> Answer
+        ensures { λ a. ⌜ a ≡ cancelling self rider ⌝ }
+    {
+        if rider >= RIDERS {
+            return Answer { no: 22, desk: self };
+        }
+        Answer {
+            no: 0,
+            desk: self.holding(rider, 0),
+        }
+    }
+
+    // What opening gives, of the number and the k that accepting the record gives: nothing is held or committed then.
+    pub fn opening(self, no: u32, k: usize) -> Answer
+        ensures { λ a. ⌜ a ≡ answer no (openFor k) self ⌝ }
+    {
+        if no != 0 {
+            return Answer { no: no, desk: self };
+        }
+        Answer {
+            no: 0,
+            desk: open_for(k),
+        }
+    }
+}
