@@ -4,11 +4,13 @@ ghost use lib.ListN.{length, take, drop};
 ghost use Rattle.model.specs.Questions.{bookNumber};
 ghost use Rattle.model.specs.Record.{acceptNumber};
 ghost use Rattle.model.specs.Calls.{powerOf, valueNumber, valueCost, leastCost, roomOf, rankNumber, rankCount, rankCosts, rankPlans, writeNumber, writeLength, writeRecord, acceptStates, acceptCount, shown};
+ghost use Rattle.reservation.specs.Reservations.{heldBy, committedBy, openFor, asking, committing, cancelling, opening};
 ghost use Rattle.kbest_c.specs.Part.{shownOffset, shownLength};
 ghost use Rattle.kbest_c.specs.Version.{version};
+use reservation::Desk;
 
 // The version in the file VERSION: its first number × 10,000 + its second × 100 + its third.
-const VERSION: u32 = 10200;
+const VERSION: u32 = 10300;
 
 // The version of the library that is linked.
 #[no_mangle]
@@ -102,4 +104,62 @@ pub extern "C" fn kbest_show(filed: &[u8], j: usize, offset: &mut usize, size: &
     let p = place::locate(filed, a.s, a.k, j);
     *offset = p.from;
     *size = p.size;
+}
+
+// ---- the desk: a plain struct in the caller's memory, of k and sixteen ranks held and committed
+
+// A desk that no record was opened at.
+#[no_mangle]
+pub extern "C" fn kbest_desk_fresh() -> Desk
+    ensures { λ r. ⌜ r ≡ openFor 0 ⌝ }
+{
+    Desk::fresh()
+}
+
+// The number of opening a desk with a record; the desk afterwards has its k, and nothing held or committed.
+#[no_mangle]
+pub extern "C" fn kbest_desk_open(desk: &mut Desk, filed: &[u8]) -> u32
+    ensures { λ r. ⌜ (r ≡ opening (now (desk .entry)) (now (filed .entry)) .no) × (now (desk .exit) ≡ opening (now (desk .entry)) (now (filed .entry)) .desk) ⌝ }
+{
+    desk::open(desk, filed)
+}
+
+// The number of asking: the rank is then held for the rider.
+#[no_mangle]
+pub extern "C" fn kbest_desk_ask(desk: &mut Desk, rider: usize, rank: usize) -> u32
+    ensures { λ r. ⌜ (r ≡ asking (now (desk .entry)) rider rank .no) × (now (desk .exit) ≡ asking (now (desk .entry)) rider rank .desk) ⌝ }
+{
+    desk::ask(desk, rider, rank)
+}
+
+// The number of committing: the rank that the rider holds is then theirs.
+#[no_mangle]
+pub extern "C" fn kbest_desk_commit(desk: &mut Desk, rider: usize) -> u32
+    ensures { λ r. ⌜ (r ≡ committing (now (desk .entry)) rider .no) × (now (desk .exit) ≡ committing (now (desk .entry)) rider .desk) ⌝ }
+{
+    desk::commit(desk, rider)
+}
+
+// The number of cancelling: the rider then holds no rank.
+#[no_mangle]
+pub extern "C" fn kbest_desk_cancel(desk: &mut Desk, rider: usize) -> u32
+    ensures { λ r. ⌜ (r ≡ cancelling (now (desk .entry)) rider .no) × (now (desk .exit) ≡ cancelling (now (desk .entry)) rider .desk) ⌝ }
+{
+    desk::cancel(desk, rider)
+}
+
+// The rank that a rider holds, 0 none.
+#[no_mangle]
+pub extern "C" fn kbest_desk_held(desk: &Desk, rider: usize) -> usize
+    ensures { λ r. ⌜ r ≡ heldBy (now (desk .entry)) rider ⌝ }
+{
+    desk::held(desk, rider)
+}
+
+// The rank that a rider has committed to, 0 none.
+#[no_mangle]
+pub extern "C" fn kbest_desk_committed(desk: &Desk, rider: usize) -> usize
+    ensures { λ r. ⌜ r ≡ committedBy (now (desk .entry)) rider ⌝ }
+{
+    desk::committed(desk, rider)
 }

@@ -1,0 +1,2 @@
+mod Passed
+mod Desks
