@@ -47,6 +47,11 @@ all-at (suc n) f e i h = go (split i n h) (and-true (all n f) (f n) e) (all-at n
     go (inl q) p ih = ap f q ∙ p .1
     go (inr l) p ih = ih (p .0) i l
 
+-- what passes for each number below n passes for all of them
+pub all-yes : (n : ℕ) (f : ℕ → Bool) → ((i : ℕ) → i < n → f i ≡ true) → all n f ≡ true
+all-yes zero f h = refl
+all-yes (suc n) f h = rw (all-yes n f (λ i l. h i (omega arith)), h n (omega arith))
+
 -- one number that fails settles the test
 pub all-fails : (n : ℕ) (f : ℕ → Bool) (i : ℕ) → i < n → f i ≡ false → all n f ≡ false
 all-fails zero f i h e = absurd (omega arith)

@@ -1,0 +1,1 @@
+// Laws alone: what holds after every sequence of calls at a desk.
