@@ -25,6 +25,10 @@ pub opens-with : (d : Desk) (bytes : List ℕ) → acceptNumber bytes ≡ 0 → 
 unfolding opening
 opens-with d bytes e = granted-next d (opens bytes) e
 
+-- so whatever desk it was, the laws below hold from there on
+pub from-any-desk : (d : Desk) (bytes : List ℕ) → acceptNumber bytes ≡ 0 → (cs : List Call) → after d (opens bytes ∷ cs) ≡ after (openFor (acceptCount bytes)) cs
+from-any-desk d bytes e cs = ap (λ (x : Desk). after x cs) (opens-with d bytes e)
+
 -- a rank that no other rider has is free
 free-when : (d : Desk) (i rank : ℕ) → ((j : ℕ) → (j ≡ i → ⊥) → With d j rank → ⊥) → free d i rank ≡ true
 unfolding free

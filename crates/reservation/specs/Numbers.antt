@@ -1,6 +1,6 @@
 -- When each call of the desk is refused, and when it is granted.
 -- Assumes nothing.
-use mathlib.Core.Path.{_≡_, _∙_}
+use mathlib.Core.Path.{_≡_, sym, _∙_}
 use mathlib.Core.Bool.{true, false}
 use mathlib.Core.List.{List, [], _∷_}
 use Prim.Native.Nat.{ℕ, _<_, _≤_}
@@ -8,13 +8,18 @@ use native.Mathlib.Omega.{arith}
 use lib.Dec.{leb}
 use borrow.Author.Tests.{lt-ltb, le-ltb, le-leb, lt-leb, ne-eqb, ltb-true, leb-true, eqb-true}
 use Rattle.model.specs.Questions.{Question, firstNo}
-use Rattle.questions.specs.FirstNo.{fails, passes, none, passed}
+use Rattle.questions.specs.FirstNo.{fails, passes, none, passed, after}
+use Rattle.questions.specs.Answers.{stops}
 use Rattle.questions.specs.Ranges.{and-true, and-right}
 use Rattle.reservation.specs.declared.Desk.{Desk}
 use Rattle.reservation.specs.Reservations.{riders, heldBy, committedBy, free, isRider, mayHave, askQuestions, commitQuestions, cancelQuestions}
 
 pub no-rider : (rider : ℕ) (qs : List (Question ℕ)) → riders ≤ rider → firstNo (isRider ∷ qs) rider ≡ 22
 no-rider rider qs h = fails rider isRider qs (le-ltb rider riders h)
+
+-- the first number that each call asks for is its number, unless it is 0
+pub stops-at-rider : (rider : ℕ) (qs : List (Question ℕ)) {n : ℕ} → n ≡ firstNo cancelQuestions rider → (n ≡ 0 → ⊥) → n ≡ firstNo (isRider ∷ qs) rider
+stops-at-rider rider qs e h = stops e _ h ∙ sym (after rider cancelQuestions qs (omega arith, tt))
 
 module _ (rider : ℕ) (is : rider < riders) where
   a-rider : (qs : List (Question ℕ)) → firstNo (isRider ∷ qs) rider ≡ firstNo qs rider

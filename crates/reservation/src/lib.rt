@@ -1,12 +1,11 @@
 // Reservations: ranks of one accepted record, for sixteen riders. A rank is held on asking and theirs on committing. Each call takes a desk by value
 // and gives the next.
 ghost use mathlib.Core.Path.{_≡_};
-ghost use Prim.Native.Nat.{_<_};
 ghost use mathlib.Core.Bool.{not, _||_};
 ghost use lib.Dec.{eqb};
 ghost use lib.ListN.{replicate};
 ghost use Rattle.model.specs.Questions.{firstNo};
-ghost use Rattle.reservation.specs.Reservations.{heldBy, committedBy, free, askQuestions, openFor, holding, answer, asking, committing, cancelling};
+ghost use Rattle.reservation.specs.Reservations.{heldBy, committedBy, free, askQuestions, commitQuestions, cancelQuestions, openFor, holding, taking, answer, asking, committing, cancelling};
 
 // How many riders there are.
 const RIDERS: usize = 16;
@@ -59,6 +58,13 @@ fn leaves(held: usize, committed: usize, rank: usize, asker: bool) -> bool
     true
 }
 
+// The number that each call of a rider asks for first; of cancelling it is the whole.
+fn rider_number(rider: usize) -> u32
+    ensures { λ r. ⌜ r ≡ firstNo cancelQuestions rider ⌝ }
+{
+    if rider >= RIDERS { 22 } else { 0 }
+}
+
 impl Desk {
     // A desk that no record was opened at.
     pub fn fresh() -> Desk
@@ -103,8 +109,9 @@ impl Desk {
     fn ask_number(self, rider: usize, rank: usize) -> u32
         ensures { λ r. ⌜ r ≡ firstNo (askQuestions self rank) rider ⌝ }
     {
-        if rider >= RIDERS {
-            return 22;
+        let no = rider_number(rider);
+        if no != 0 {
+            return no;
         }
         if rank < 1 {
             return 23;
@@ -118,13 +125,46 @@ impl Desk {
         if self.is_free(rider, rank) { 0 } else { 24 }
     }
 
-    // The rider holds the rank, and no other; 0 drops the hold.
+    // The number of committing.
+    fn commit_number(self, rider: usize) -> u32
+        ensures { λ r. ⌜ r ≡ firstNo (commitQuestions self) rider ⌝ }
+    {
+        let no = rider_number(rider);
+        if no != 0 {
+            return no;
+        }
+        if self.held_by(rider) == 0 { 24 } else { 0 }
+    }
+
+    // The rider holds the rank, and no other; 0 drops the hold. A number that is no rider's changes nothing.
     fn holding(mut self, rider: usize, rank: usize) -> Desk
-        requires { ⌜ rider < 16 ⌝ }
         ensures { λ r. ⌜ r ≡ holding self rider rank ⌝ }
     {
-        self.held[rider] = rank;
+        if rider < RIDERS {
+            self.held[rider] = rank;
+        }
         self
+    }
+
+    // The rank that the rider held is theirs, and the hold has ended.
+    fn taking(self, rider: usize) -> Desk
+        ensures { λ r. ⌜ r ≡ taking self rider ⌝ }
+    {
+        let mut next = self.holding(rider, 0);
+        if rider < RIDERS {
+            next.committed[rider] = self.held_by(rider);
+        }
+        next
+    }
+
+    // A refused call changes nothing.
+    fn answer(self, no: u32, next: Desk) -> Answer
+        ensures { λ a. ⌜ a ≡ answer no next self ⌝ }
+    {
+        if no != 0 {
+            return Answer { no: no, desk: self };
+        }
+        Answer { no: 0, desk: next }
     }
 
     // A granted ask drops the rider's earlier hold.
@@ -132,54 +172,28 @@ impl Desk {
         ensures { λ a. ⌜ a ≡ asking self rider rank ⌝ }
     {
         let no = self.ask_number(rider, rank);
-        if no != 0 {
-            return Answer { no: no, desk: self };
-        }
-        Answer {
-            no: 0,
-            desk: self.holding(rider, rank),
-        }
+        self.answer(no, self.holding(rider, rank))
     }
 
-    // The rank held becomes the rider's, and the hold ends.
     pub fn committing(self, rider: usize) -> Answer
         ensures { λ a. ⌜ a ≡ committing self rider ⌝ }
     {
-        if rider >= RIDERS {
-            return Answer { no: 22, desk: self };
-        }
-        let rank = self.held_by(rider);
-        if rank == 0 {
-            return Answer { no: 24, desk: self };
-        }
-        let mut next = self.holding(rider, 0);
-        next.committed[rider] = rank;
-        Answer { no: 0, desk: next }
+        let no = self.commit_number(rider);
+        self.answer(no, self.taking(rider))
     }
 
     // A hold is dropped, a commitment never.
     pub fn cancelling(self, rider: usize) -> Answer
         ensures { λ a. ⌜ a ≡ cancelling self rider ⌝ }
     {
-        if rider >= RIDERS {
-            return Answer { no: 22, desk: self };
-        }
-        Answer {
-            no: 0,
-            desk: self.holding(rider, 0),
-        }
+        let no = rider_number(rider);
+        self.answer(no, self.holding(rider, 0))
     }
 
-    // What opening gives, of the number and the k that accepting the record gives: nothing is held or committed then.
+    // Opening, of the number and the k that accepting the record gives.
     pub fn opening(self, no: u32, k: usize) -> Answer
         ensures { λ a. ⌜ a ≡ answer no (openFor k) self ⌝ }
     {
-        if no != 0 {
-            return Answer { no: no, desk: self };
-        }
-        Answer {
-            no: 0,
-            desk: open_for(k),
-        }
+        self.answer(no, open_for(k))
     }
 }
