@@ -30,10 +30,12 @@ rust_program() { # FOLDER/NAME
     rustc --edition 2021 -O -D warnings "bindings/rust/$1.rs" --extern kbest="$out/libkbest.rlib" -o "$out/rust_$(basename "$1")"
 }
 c_program example
+c_program monday
 c_program test_tables
 c_program test_null
 rustc --edition 2021 -O -D warnings --crate-type rlib --crate-name kbest bindings/rust/src/lib.rs -L native=target/staticlib --out-dir "$out"
 rust_program examples/example
+rust_program examples/monday
 rust_program tests/tables
 gcc -shared -Wl,--whole-archive "$archive" -Wl,--no-whole-archive -o "$out/libkbest.so"
 
@@ -78,5 +80,17 @@ example c "$out/c_example"
 example rust "$out/rust_example"
 example python python3 bindings/python/example.py
 
+monday() { # NAME COMMAND..: what two dispatchers at a desk get
+    name=$1
+    shift
+    "$@" >"$out/${name}_monday.out" || die "$name: the example of a desk failed"
+    same bindings/expected_monday.txt "$out/${name}_monday.out" "$name: not what bindings/expected_monday.txt has"
+}
+monday c "$out/c_monday"
+monday rust "$out/rust_monday"
+monday python python3 bindings/python/monday.py
+echo "two dispatchers at a desk get the same answers in all languages"
+
 "$out/c_test_null"
 python3 bindings/python/test_random.py
+python3 bindings/python/test_desk.py

@@ -6,14 +6,14 @@
  * A plan has one byte for each of the book's S posts: the choice of a reached post, 255 for any other.
  * Costs are exact and stand over D^H: divide by kbest_power(D, H) for the expected total cost.
  *
- * Every call takes any array of any length and any count. Each array crosses as a pointer and its number of elements.
- * A call gives 0, or the number of the first question that is answered no. A refusal sets every figure to 0 and leaves every lent array as it was.
- * Success writes the stated front of a lent array and leaves the rest as it was.
+ * Every call takes any array of any length, any count and any desk. Each array crosses as a pointer and its number of elements.
+ * A call gives 0, or the number of the first question that is answered no. A refusal sets every figure to 0 and leaves every lent array and the desk
+ * as they were. Success writes the stated front of a lent array and leaves the rest as it was.
  *
  * For an array of length 0 any pointer will do, a null pointer too. The caller sees to it that every other pointer is aligned for its type and
- * points to as many elements as are said, that no pointer to a figure is null, and that no array or figure that is written overlaps another
- * argument. No call keeps a pointer, allocates memory, reads or writes anything but its arguments, or waits; calls from several threads do not
- * disturb each other. A call takes less than 128 kB of stack. */
+ * points to as many elements as are said, that no pointer to a figure or a desk is null, and that no array, figure or desk that is written overlaps
+ * another argument. No call keeps a pointer, allocates memory, reads or writes anything but its arguments, or waits; calls from several threads do not
+ * disturb each other, but calls on one desk have to come one after another, refused ones too. A call takes less than 128 kB of stack. */
 #ifndef KBEST_H
 #define KBEST_H
 
@@ -25,8 +25,8 @@ extern "C" {
 #endif
 
 /* The version of this header, as text and as a number: the first x 10,000 + the second x 100 + the third. */
-#define KBEST_VERSION_TEXT "1.2.0"
-#define KBEST_VERSION 10200
+#define KBEST_VERSION_TEXT "1.3.0"
+#define KBEST_VERSION 10300
 
 /* The version of the library that is linked, as a number. */
 uint32_t kbest_version(void);
@@ -36,6 +36,9 @@ uint32_t kbest_version(void);
 #define KBEST_POSTS_MOST 64
 #define KBEST_PLANS_MOST 64
 #define KBEST_RECORD_MOST 21308
+
+/* How many riders a desk has: they are 0 to 15. */
+#define KBEST_RIDERS 16
 
 /* The byte of a post that a plan does not reach. */
 #define KBEST_NOT_REACHED 255
@@ -63,7 +66,10 @@ enum {
     KBEST_RECORD_ROOM = 18,
     KBEST_RECORD_HEAD = 19,
     KBEST_RECORD_LENGTH = 20,
-    KBEST_RECORD_LIST = 21
+    KBEST_RECORD_LIST = 21,
+    KBEST_RIDER = 22,
+    KBEST_RANK = 23,
+    KBEST_RESERVED = 24
 };
 
 /* The questions, in order; each is put to the whole input before the next. Any other number gives an empty text. */
@@ -90,6 +96,10 @@ static inline const char *kbest_question(uint32_t number) {
     case KBEST_RECORD_HEAD: return "are there 12 bytes, is W at most 4,172, and do 4 x W bytes follow?";
     case KBEST_RECORD_LENGTH: return "is k from 1 to K, and the record's length exact?";
     case KBEST_RECORD_LIST: return "are costs, plans and k those that ranking gives?";
+    case KBEST_RIDER: return "is the rider from 0 to 15?";
+    case KBEST_RANK: return "does the record list the rank?";
+    case KBEST_RESERVED:
+        return "on asking, is the rank with no other rider and the asker not yet committed; on committing, is a rank held?";
     default: return "";
     }
 }
@@ -119,6 +129,36 @@ uint32_t kbest_accept(const uint8_t *record, size_t bytes, size_t *posts, size_t
 
 /* Where plan j of a record lies: *length bytes from record + *offset. Both are 0 where the record is not accepted or lists no plan j. */
 void kbest_show(const uint8_t *record, size_t bytes, size_t j, size_t *offset, size_t *length);
+
+/* A desk: which rank of one accepted record is whose. It lies in the caller's memory, starts as kbest_desk_fresh gives it, and only the calls below
+ * change it. k is how many plans the record lists, 0 before one is opened; held and committed have a rank for each rider, 0 for none. Rank 1 is the
+ * plan that kbest_show has as 0. After any calls on an opened desk no rank is held or committed for two riders, and a rider who was granted a rank can
+ * commit, whatever is done for others, until they cancel, commit or are granted another, or the desk is opened anew.
+ * For a desk that was made or changed in another way a call that does not open it still ends with a result or a number; no more is promised. */
+typedef struct kbest_desk {
+    size_t k;
+    size_t held[KBEST_RIDERS];
+    size_t committed[KBEST_RIDERS];
+} kbest_desk;
+
+/* A desk that no record was opened at: every rank is refused with 23. */
+kbest_desk kbest_desk_fresh(void);
+
+/* Opens a desk, also anew, with a record: the questions of kbest_accept. The desk then has the record's k, and nothing is held or committed. */
+uint32_t kbest_desk_open(kbest_desk *desk, const uint8_t *record, size_t bytes);
+
+/* Holds a rank, 1 to k, for a rider: questions 22 to 24. Another rank that the rider held is free again; they may ask for the same once more. */
+uint32_t kbest_desk_ask(kbest_desk *desk, size_t rider, size_t rank);
+
+/* Makes the rank that a rider holds theirs and ends the hold: questions 22 and 24. */
+uint32_t kbest_desk_commit(kbest_desk *desk, size_t rider);
+
+/* Drops the rank that a rider holds, if any, which is free again, and never a commitment: question 22. */
+uint32_t kbest_desk_cancel(kbest_desk *desk, size_t rider);
+
+/* The rank that a rider holds, and the one that they have committed to; 0 for none, and for a number that is no rider's. */
+size_t kbest_desk_held(const kbest_desk *desk, size_t rider);
+size_t kbest_desk_committed(const kbest_desk *desk, size_t rider);
 
 #ifdef __cplusplus
 }

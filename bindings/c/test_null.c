@@ -1,4 +1,5 @@
-/* A null pointer for each array of length 0: every call gives the number that it gives for any other pointer, and 0 for every figure. */
+/* A null pointer for each array of length 0: every call gives the number that it gives for any other pointer, and 0 for every figure; the desk stays
+ * as it was. */
 #include <stdio.h>
 #include <string.h>
 
@@ -14,6 +15,7 @@ static const uint8_t PLAN[] = {1, 0, KBEST_NOT_REACHED};
 /* What is lent beside an empty array has room enough. */
 static int64_t costs[ASKED];
 static uint8_t bytes[200];
+static kbest_desk desk;
 
 /* Which figures a call has. */
 enum figures { NONE, COST, ONE, TWO };
@@ -29,7 +31,10 @@ static int untouched(void) {
     for (size_t i = 0; i < sizeof bytes; i++)
         if (bytes[i] != BEFORE)
             return 0;
-    return 1;
+    for (size_t rider = 0; rider < KBEST_RIDERS; rider++)
+        if (desk.held[rider] != BEFORE || desk.committed[rider] != BEFORE)
+            return 0;
+    return desk.k == BEFORE;
 }
 
 static void same(const char *call, enum figures has, uint32_t number, uint32_t want) {
@@ -60,6 +65,7 @@ static void ask(void *empty) {
     same("accept", TWO, kbest_accept(empty, 0, &first, &second), KBEST_RECORD_HEAD);
     kbest_show(empty, 0, 0, &first, &second);
     same("show", TWO, 0, 0);
+    same("open", NONE, kbest_desk_open(&desk, empty, 0), KBEST_RECORD_HEAD);
 }
 
 int main(void) {
@@ -67,6 +73,9 @@ int main(void) {
     for (size_t i = 0; i < ASKED; i++)
         costs[i] = BEFORE;
     memset(bytes, BEFORE, sizeof bytes);
+    desk.k = BEFORE;
+    for (size_t rider = 0; rider < KBEST_RIDERS; rider++)
+        desk.held[rider] = desk.committed[rider] = BEFORE;
     ask(&place);
     ask(NULL);
     if (faults == 0)

@@ -9,15 +9,17 @@ import ctypes
 import functools
 import os
 import pathlib
+import threading
 
 # of this module, as text and as the number that version() gives of the library
-VERSION_TEXT = '1.2.0'
-VERSION = 10200
+VERSION_TEXT = '1.3.0'
+VERSION = 10300
 
 BOOK_MOST = 4172
 POSTS_MOST = 64
 PLANS_MOST = 64
 RECORD_MOST = 21308
+RIDERS = 16
 NOT_REACHED = 255
 
 # each is put to the whole input before the next
@@ -43,6 +45,9 @@ QUESTIONS = {
     19: 'are there 12 bytes, is W at most 4,172, and do 4 x W bytes follow?',
     20: "is k from 1 to K, and the record's length exact?",
     21: 'are costs, plans and k those that ranking gives?',
+    22: 'is the rider from 0 to 15?',
+    23: 'does the record list the rank?',
+    24: 'on asking, is the rank with no other rider and the asker not yet committed; on committing, is a rank held?',
 }
 
 
@@ -57,13 +62,19 @@ class Refused(Exception):
         return 'refused %d: %s' % (self.number, self.question)
 
 
+class _Desk(ctypes.Structure):
+    """A desk as it lies in memory: by rider the rank held and the rank committed, 0 for none."""
+
+    _fields_ = [('k', ctypes.c_size_t), ('held', ctypes.c_size_t * RIDERS), ('committed', ctypes.c_size_t * RIDERS)]
+
+
 @functools.cache
 def _library():
     built = pathlib.Path(__file__).resolve().parents[2] / 'target' / 'bindings' / 'libkbest.so'
     lib = ctypes.CDLL(os.environ.get('KBEST_LIBRARY', str(built)))
     size, number = ctypes.c_size_t, ctypes.c_uint32
     words, data, costs = (ctypes.POINTER(t) for t in (ctypes.c_int32, ctypes.c_uint8, ctypes.c_int64))
-    figure = ctypes.POINTER(size)
+    figure, desk = ctypes.POINTER(size), ctypes.POINTER(_Desk)
     for name, result, arguments in (
         ('version', number, ()),
         ('check', number, (words, size)),
@@ -74,6 +85,13 @@ def _library():
         ('write', number, (words, size, size, data, size, figure)),
         ('accept', number, (data, size, figure, figure)),
         ('show', None, (data, size, size, figure, figure)),
+        ('desk_fresh', _Desk, ()),
+        ('desk_open', number, (desk, data, size)),
+        ('desk_ask', number, (desk, size, size)),
+        ('desk_commit', number, (desk, size)),
+        ('desk_cancel', number, (desk, size)),
+        ('desk_held', size, (desk, size)),
+        ('desk_committed', size, (desk, size)),
     ):
         call = getattr(lib, 'kbest_' + name)
         call.restype, call.argtypes = result, arguments
@@ -102,6 +120,16 @@ def _size(count):
     if count < 0:
         raise ValueError('a count is below 0')
     return min(count, 2 ** 64 - 1)
+
+
+def _rider(number):
+    """Any number that does not cross is no rider's, as is the one that crosses instead."""
+    return number if 0 <= number < 2 ** 64 else RIDERS
+
+
+def _rank(number):
+    """Any number that does not cross is no record's rank, as is 0, which crosses instead."""
+    return number if 0 <= number < 2 ** 64 else 0
 
 
 def _answer(number, figure=None):
@@ -166,3 +194,50 @@ def show(record, j):
     offset, length = ctypes.c_size_t(), ctypes.c_size_t()
     _library().kbest_show(*_bytes(record), _size(j), ctypes.byref(offset), ctypes.byref(length))
     return memoryview(record)[offset.value:offset.value + length.value]
+
+
+class Desk:
+    """Which rank of one accepted record is whose: a rank, 1 to k, is held on asking and a rider's own on committing. Riders are 0 to 15.
+
+    After any calls on an opened desk no rank is held or committed for two riders, and a rider who was granted a rank can commit, whatever is done for
+    others, until they cancel, commit or are granted another, or the desk is opened anew. A refused call leaves the desk as it was.
+    """
+
+    def __init__(self):
+        """A desk that no record was opened at: every rank is refused with 23."""
+        self._desk, self._lock = _library().kbest_desk_fresh(), threading.Lock()
+
+    def _call(self, name, *arguments):
+        """Other threads go on during a call, so those on one desk wait for each other here."""
+        with self._lock:
+            return getattr(_library(), 'kbest_desk_' + name)(ctypes.byref(self._desk), *arguments)
+
+    @property
+    def k(self):
+        """How many plans the record lists, 0 before one is opened."""
+        with self._lock:
+            return self._desk.k
+
+    def open(self, record):
+        """Opens the desk, also anew, with a record: the questions of accept. It then has the record's k, and nothing is held or committed."""
+        _answer(self._call('open', *_bytes(record)))
+
+    def ask(self, rider, rank):
+        """Holds a rank for a rider: questions 22 to 24. Another rank that the rider held is free again; they may ask for the same once more."""
+        _answer(self._call('ask', _rider(rider), _rank(rank)))
+
+    def commit(self, rider):
+        """Makes the rank that a rider holds theirs and ends the hold: questions 22 and 24."""
+        _answer(self._call('commit', _rider(rider)))
+
+    def cancel(self, rider):
+        """Drops the rank that a rider holds, if any, which is free again, and never a commitment: question 22."""
+        _answer(self._call('cancel', _rider(rider)))
+
+    def held(self, rider):
+        """The rank that a rider holds; None for none, and for a number that is no rider's. Rank 1 is the plan that show has as 0."""
+        return self._call('held', _rider(rider)) or None
+
+    def committed(self, rider):
+        """The rank that a rider has committed to; None for none, and for a number that is no rider's."""
+        return self._call('committed', _rider(rider)) or None

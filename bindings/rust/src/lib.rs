@@ -8,9 +8,9 @@ use std::fmt;
 use std::num::NonZeroU32;
 
 /// The version of this wrapper as text.
-pub const VERSION_TEXT: &str = "1.2.0";
+pub const VERSION_TEXT: &str = "1.3.0";
 /// The same as a number: the first × 10,000 + the second × 100 + the third.
-pub const VERSION: u32 = 10200;
+pub const VERSION: u32 = 10300;
 
 /// The longest book in words.
 pub const BOOK_MOST: usize = 4172;
@@ -20,11 +20,13 @@ pub const POSTS_MOST: usize = 64;
 pub const PLANS_MOST: usize = 64;
 /// The longest record in bytes.
 pub const RECORD_MOST: usize = 21308;
+/// How many riders a desk has: they are 0 to 15.
+pub const RIDERS: usize = 16;
 /// The byte of a post that a plan does not reach.
 pub const NOT_REACHED: u8 = 255;
 
-/// The questions 1 to 21, in order; each is put to the whole input before the next.
-pub const QUESTIONS: [&str; 21] = [
+/// The questions 1 to 24, in order; each is put to the whole input before the next.
+pub const QUESTIONS: [&str; 24] = [
     "are there three words?",
     "is D from 1 to 100?",
     "is H from 1 to 8?",
@@ -46,9 +48,14 @@ pub const QUESTIONS: [&str; 21] = [
     "are there 12 bytes, is W at most 4,172, and do 4 x W bytes follow?",
     "is k from 1 to K, and the record's length exact?",
     "are costs, plans and k those that ranking gives?",
+    "is the rider from 0 to 15?",
+    "does the record list the rank?",
+    "on asking, is the rank with no other rider and the asker not yet committed; on committing, is a rank held?",
 ];
 
 mod c {
+    use super::Desk;
+
     #[link(name = "kbest_c", kind = "static")]
     extern "C" {
         pub fn kbest_version() -> u32;
@@ -69,6 +76,13 @@ mod c {
         pub fn kbest_write(book: *const i32, words: usize, k: usize, record: *mut u8, room: usize, length: *mut usize) -> u32;
         pub fn kbest_accept(record: *const u8, bytes: usize, posts: *mut usize, listed: *mut usize) -> u32;
         pub fn kbest_show(record: *const u8, bytes: usize, j: usize, offset: *mut usize, length: *mut usize);
+        pub fn kbest_desk_fresh() -> Desk;
+        pub fn kbest_desk_open(desk: *mut Desk, record: *const u8, bytes: usize) -> u32;
+        pub fn kbest_desk_ask(desk: *mut Desk, rider: usize, rank: usize) -> u32;
+        pub fn kbest_desk_commit(desk: *mut Desk, rider: usize) -> u32;
+        pub fn kbest_desk_cancel(desk: *mut Desk, rider: usize) -> u32;
+        pub fn kbest_desk_held(desk: *const Desk, rider: usize) -> usize;
+        pub fn kbest_desk_committed(desk: *const Desk, rider: usize) -> usize;
     }
 }
 
@@ -77,7 +91,7 @@ mod c {
 pub struct Refused(NonZeroU32);
 
 impl Refused {
-    /// From 1 to 21.
+    /// From 1 to 24.
     pub fn number(self) -> u32 {
         self.0.get()
     }
@@ -105,6 +119,17 @@ pub struct Accepted {
     pub listed: usize,
 }
 
+/// Which rank of one accepted record is whose. Only the calls below make and change a desk, so on an opened desk no rank is held or committed for two
+/// riders, and a rider who was granted a rank can commit, whatever is done for others, until they cancel, commit or are granted another, or the desk is
+/// opened anew. A copy is another desk.
+#[repr(C)]
+#[derive(Clone, Copy, Debug, PartialEq, Eq)]
+pub struct Desk {
+    k: usize,
+    held: [usize; RIDERS],
+    committed: [usize; RIDERS],
+}
+
 fn answer<T>(number: u32, figure: T) -> Result<T, Refused> {
     match NonZeroU32::new(number) {
         None => Ok(figure),
@@ -112,7 +137,8 @@ fn answer<T>(number: u32, figure: T) -> Result<T, Refused> {
     }
 }
 
-// In each call below the pointers and lengths are those of live slices and figures; what is written is borrowed for that alone, so nothing overlaps.
+// In each call below the pointers and lengths are those of live slices, figures and desks; what is written is borrowed for that alone, so nothing
+// overlaps, and no other thread has it.
 
 /// The version of the library that is linked, as a number.
 pub fn version() -> u32 {
@@ -180,4 +206,57 @@ pub fn show(record: &[u8], j: usize) -> &[u8] {
     let (mut offset, mut length) = (0, 0);
     unsafe { c::kbest_show(record.as_ptr(), record.len(), j, &mut offset, &mut length) };
     &record[offset..offset + length]
+}
+
+/// What a look-up gives has 0 for no rank.
+fn some_rank(rank: usize) -> Option<usize> {
+    (rank != 0).then_some(rank)
+}
+
+impl Desk {
+    /// A desk that no record was opened at: every rank is refused with 23.
+    pub fn fresh() -> Desk {
+        unsafe { c::kbest_desk_fresh() }
+    }
+
+    /// Opens the desk, also anew, with a record: the questions of `accept`. It then has the record's k, and nothing is held or committed.
+    pub fn open(&mut self, record: &[u8]) -> Result<(), Refused> {
+        answer(unsafe { c::kbest_desk_open(self, record.as_ptr(), record.len()) }, ())
+    }
+
+    /// Holds a rank, 1 to k, for a rider: questions 22 to 24. Another rank that the rider held is free again; they may ask for the same once more.
+    pub fn ask(&mut self, rider: usize, rank: usize) -> Result<(), Refused> {
+        answer(unsafe { c::kbest_desk_ask(self, rider, rank) }, ())
+    }
+
+    /// Makes the rank that a rider holds theirs and ends the hold: questions 22 and 24.
+    pub fn commit(&mut self, rider: usize) -> Result<(), Refused> {
+        answer(unsafe { c::kbest_desk_commit(self, rider) }, ())
+    }
+
+    /// Drops the rank that a rider holds, if any, which is free again, and never a commitment: question 22.
+    pub fn cancel(&mut self, rider: usize) -> Result<(), Refused> {
+        answer(unsafe { c::kbest_desk_cancel(self, rider) }, ())
+    }
+
+    /// k: how many plans the record lists, 0 before one is opened.
+    pub fn count(&self) -> usize {
+        self.k
+    }
+
+    /// The rank that a rider holds; rank 1 is the plan that `show` has as 0.
+    pub fn held(&self, rider: usize) -> Option<usize> {
+        some_rank(unsafe { c::kbest_desk_held(self, rider) })
+    }
+
+    /// The rank that a rider has committed to.
+    pub fn committed(&self, rider: usize) -> Option<usize> {
+        some_rank(unsafe { c::kbest_desk_committed(self, rider) })
+    }
+}
+
+impl Default for Desk {
+    fn default() -> Desk {
+        Desk::fresh()
+    }
 }
