@@ -476,3 +476,65 @@ fn accepted(record: &[u8]) -> Result<(usize, usize), u32> {
         Err(21)
     }
 }
+
+const RIDERS: usize = 16;
+
+/// Which rank of a record is whose: by rider the rank held and the rank committed, 0 for none.
+#[derive(Clone, Copy)]
+pub struct Desk {
+    pub k: usize,
+    pub held: [usize; RIDERS],
+    pub committed: [usize; RIDERS],
+}
+
+impl Desk {
+    pub fn fresh() -> Desk {
+        Desk { k: 0, held: [0; RIDERS], committed: [0; RIDERS] }
+    }
+
+    pub fn open(&mut self, record: &[u8]) -> u32 {
+        let (no, _, k) = accept(record);
+        if no == 0 {
+            *self = Desk { k, ..Desk::fresh() };
+        }
+        no
+    }
+
+    pub fn ask(&mut self, rider: usize, rank: usize) -> u32 {
+        if rider >= RIDERS {
+            return 22;
+        }
+        if rank == 0 || rank > self.k {
+            return 23;
+        }
+        let has = |i: usize| self.held[i] == rank || self.committed[i] == rank;
+        if self.committed[rider] != 0 || (0..RIDERS).any(|i| i != rider && has(i)) {
+            return 24;
+        }
+        self.held[rider] = rank;
+        0
+    }
+
+    pub fn commit(&mut self, rider: usize) -> u32 {
+        if rider >= RIDERS {
+            return 22;
+        }
+        if self.held[rider] == 0 {
+            return 24;
+        }
+        self.committed[rider] = std::mem::take(&mut self.held[rider]);
+        0
+    }
+
+    pub fn cancel(&mut self, rider: usize) -> u32 {
+        if rider >= RIDERS {
+            return 22;
+        }
+        self.held[rider] = 0;
+        0
+    }
+
+    pub fn held(&self, rider: usize) -> usize {
+        self.held.get(rider).map_or(0, |&rank| rank)
+    }
+}

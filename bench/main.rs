@@ -195,6 +195,35 @@ fn assert_small_books(rng: &mut Random) -> usize {
     compared
 }
 
+/// The record of a book and 64.
+fn record_of(book: &[i32]) -> Vec<u8> {
+    let mut room = Room::new();
+    let length = write_library(book, &mut room);
+    room.record[..length].to_vec()
+}
+
+/// Calls at a desk, by riders that are there and one that is not, and for ranks that are listed and not; how many were compared.
+fn assert_equal_desks(rng: &mut Random, record: &[u8]) -> usize {
+    const CALLS: usize = 20000;
+    let (mut a, mut b) = (kbest::Desk::fresh(), baseline::Desk::fresh());
+    for i in 0..CALLS {
+        let (rider, rank) = (rng.from(0, 16) as usize, rng.from(0, 18) as usize);
+        let (got, want) = match rng.from(0, if i % 500 == 0 { 4 } else { 3 }) {
+            0 | 1 => (a.ask(rider, rank), b.ask(rider, rank)),
+            2 => (a.cancel(rider), b.cancel(rider)),
+            3 => (a.commit(rider), b.commit(rider)),
+            _ => (a.open(record), b.open(record)),
+        };
+        assert_eq!(number(got, ()).0, want, "call {i} at a desk");
+        for rider in 0..17 {
+            assert_eq!(a.held(rider).unwrap_or(0), b.held(rider), "held after call {i}");
+            assert_eq!(a.committed(rider).unwrap_or(0), b.committed.get(rider).map_or(0, |&rank| rank), "committed after call {i}");
+        }
+        assert_eq!(a.count(), b.k);
+    }
+    CALLS
+}
+
 /// Seconds of one call, by `repeats` of it.
 fn time<T>(repeats: usize, call: &mut impl FnMut() -> T) -> f64 {
     let start = Instant::now();
@@ -287,6 +316,20 @@ fn ratios(name: &str, book: &[i32]) {
     );
 }
 
+/// The same for calls at a desk where rider 3 holds rank 5. Each leaves the desk as it is: a rank asked for again, one that another rider holds, a
+/// rider who holds none, whose hold is cancelled and who commits; and a look-up.
+fn desk_ratios(name: &str, record: &[u8]) {
+    let (mut a, mut b) = (kbest::Desk::fresh(), baseline::Desk::fresh());
+    let open = ratio(|| a.open(black_box(record)), || b.open(black_box(record)));
+    assert!(a.ask(3, 5).is_ok() && b.ask(3, 5) == 0);
+    let ask = ratio(|| a.ask(black_box(3), black_box(5)), || b.ask(black_box(3), black_box(5)));
+    let refused = ratio(|| a.ask(black_box(4), black_box(5)), || b.ask(black_box(4), black_box(5)));
+    let cancel = ratio(|| a.cancel(black_box(4)), || b.cancel(black_box(4)));
+    let commit = ratio(|| a.commit(black_box(4)), || b.commit(black_box(4)));
+    let held = ratio(|| a.held(black_box(3)), || b.held(black_box(3)));
+    println!("{name:28} {open:7.2} {ask:7.2} {refused:8.2} {cancel:8.2} {commit:8.2} {held:8.2}");
+}
+
 /// How the time of ranking grows with K, against K = 1.
 fn growth_with_k(name: &str, book: &[i32]) {
     let (mut a, mut b) = (Room::new(), Room::new());
@@ -363,13 +406,19 @@ fn main() {
         assert_eq!(kbest::check(book), Ok(()), "a timed book is accepted");
         assert_equal(book);
     }
-    println!("equal results on the timed books and {} small ones\n", assert_small_books(&mut rng));
+    let record = record_of(&books[2].1);
+    let (small, calls) = (assert_small_books(&mut rng), assert_equal_desks(&mut rng, &record));
+    println!("equal results on the timed books, on {small} small ones and in {calls} calls at a desk\n");
 
     println!("library time / Rust time");
     println!("{:28} {:>7} {:>7} {:>7} {:>8} {:>8} {:>8} {:>8} {:>8}", "", "check", "value", "least", "rank 1", "rank 8", "rank 64", "write 64", "accept");
     for (name, book) in &books {
         ratios(&format!("{name}, {} lines", book[2]), book);
     }
+
+    println!("\nat a desk, library time / Rust time");
+    println!("{:28} {:>7} {:>7} {:>8} {:>8} {:>8} {:>8}", "", "open", "ask", "refused", "cancel", "commit", "held");
+    desk_ratios("typical, k = 64", &record);
 
     println!("\nranking, time / time for K = 1");
     println!("{:25} {}", "K", [1, 2, 4, 8, 16, 32, 64].map(|k| format!("{k:7}")).concat());

@@ -5,8 +5,8 @@
     tests/cases.py show SEED N      prints case N of a seed of fresh.py, each command with what is expected; seed `stored` for a stored one
 
 Each rule of document 01 has its cases here: the tours, each question from both sides, which of two comes first, rooms and counts at their limits,
-ties, records with each byte changed, pages, the largest book. After them stand those of document 02: stops, six next posts. Breadth is fresh.py's; a few of
-its kinds are stored too. New cases are added at the end, so that the others keep their numbers.
+ties, records with each byte changed, pages, the largest book. After them stand those of document 02: stops, six next posts, the desk. Breadth is fresh.py's;
+a few of its kinds are stored too. New cases are added at the end, so that the others keep their numbers.
 """
 
 import os
@@ -19,9 +19,10 @@ import machine
 import reference as ref
 import search
 import tours
-from machine import BOOK, OUT, Case, Command, accept, book, little, page, put, rank, show, value, write
+from machine import BOOK, OUT, Case, Command, accept, ask, book, cancel, commit, fill, little, opening, page, put, rank, show, value, write
 
 LOW, HIGH = -2 ** 31, 2 ** 31 - 1
+REFUSALS = {*range(15), 19, 20, 21}    # what accepting a record can give
 
 
 # ---- a book that is accepted
@@ -489,12 +490,84 @@ def row_record_cases():
     yield 'the record of a book with 6 next posts, each byte with bit 1 flipped', flipped(ref.record(words, 2), 1)
 
 
+# ---- the desk
+
+NO_RIDERS = (16, 17, 255, 2 ** 32, 2 ** 32 + 3, 2 ** 63, 2 ** 64 - 1)
+
+
+def joined(*calls):
+    return [command for call in calls for command in call]
+
+
+def opened(plans, most=64):
+    """A desk for the record of a book with so many plans."""
+    return opening(ref.record(one_post(2, *[(i, [(0, 2)]) for i in range(plans)]), most))
+
+
+def desk_rules():
+    yield 'two dispatchers give the same plan', joined(ask(0, 1), ask(1, 1), ask(1, 2), commit(0), commit(1))
+    yield 'the rank that is held asked for again', joined(ask(0, 1), ask(0, 1), commit(0))
+    yield 'a granted ask drops the earlier hold', joined(ask(0, 1), ask(0, 3), ask(1, 1), ask(2, 3), commit(0), commit(1))
+    yield 'a refused ask keeps the earlier hold', joined(ask(0, 1), ask(1, 2), ask(0, 2), ask(0, 4), ask(1, 1), commit(0), commit(1))
+    yield 'a commitment is for good', joined(ask(0, 3), commit(0), commit(0), cancel(0), ask(0, 2), ask(1, 3), ask(0, 3), ask(0, 4))
+    yield 'a cancelled rank is free again', joined(ask(0, 2), cancel(0), cancel(0), commit(0), ask(1, 2), commit(1), ask(0, 2))
+    yield 'committing and cancelling with no hold', joined(commit(3), cancel(3), commit(3))
+    yield 'what others do', joined(ask(5, 2), ask(6, 2), ask(6, 1), commit(6), cancel(7), ask(7, 3), ask(7, 2), cancel(7), commit(5))
+    yield 'which number comes first', joined(ask(0, 1), commit(0), ask(16, 4), ask(16, 1), ask(0, 4), ask(0, 0), ask(1, 4), ask(1, 1))
+
+
+def desk_limits():
+    for rider in (0, 15) + NO_RIDERS:
+        yield 'rider %d' % rider, joined(ask(rider, 1), cancel(rider), ask(rider, 2), commit(rider), commit(rider))
+    for rank in (0, 1, 2, 3, 4, 2 ** 32 + 1, 2 ** 63, 2 ** 64 - 1):
+        yield 'rank %d of 3' % rank, joined(ask(2, rank), commit(2))
+
+
+def desk_opened_cases():
+    """Desks for lists of one plan, of 8 and of as many as riders, all of them taken; opened anew; never opened."""
+    yield 'one plan', joined(opened(1), ask(0, 1), ask(1, 2), ask(1, 1), commit(0), opened(1), ask(1, 1))
+    yield 'each rider with a plan', joined(opening(ref.record(chain(4, 4), 16)), *[ask(i, 16 - i) for i in range(16)], *[commit(i) for i in range(16)], ask(15, 1))
+    yield 'opened anew with another k', joined(opened(4), ask(0, 4), ask(1, 3), commit(1), opened(2), commit(0), ask(0, 4), ask(2, 2), ask(1, 2), ask(1, 1))
+    yield 'opened with k below K', joined(opened(3, 64), ask(0, 3), ask(0, 4), opened(3, 2), ask(0, 3), ask(0, 2))
+    yield 'never opened', joined(ask(0, 1), ask(0, 0), ask(16, 1), commit(0), cancel(0), opening(b''), ask(0, 1))
+
+
+def refused_openings():
+    """For each number a record that gets it, at a desk where ranks are held and committed."""
+    found, n = {}, 0
+    while len(found) < len(REFUSALS):
+        record = kinds.record_input(random.Random('opening:%d' % n))[:BOOK - OUT]
+        found.setdefault(ref.accept(record)[0], record)
+        n += 1
+    for no in sorted(REFUSALS - {0}):
+        yield 'an opening that gets %d' % no, joined(opened(3), ask(0, 1), commit(0), ask(1, 2), opening(found[no]), commit(1), ask(2, 3))
+
+
+def filled_desks():
+    """Desks that no call made: a rank twice, ranks that are not listed, a rider with both, any k."""
+    none = [0] * 16
+    first = [1] + none[1:]
+    both = [(2, [1, 1] + none[2:], none), (2, first, [0, 1] + none[2:]), (2, first, first), (2, [9] + none[1:], none), (0, first, none),
+            (2 ** 64 - 1, none, none), (2 ** 64 - 1, [2 ** 64 - 1] * 16, [2 ** 63] * 16), (3, list(range(16)), list(range(16, 0, -1)))]
+    for n, (k, held, committed) in enumerate(both):
+        calls = joined(ask(0, 1), ask(1, 1), ask(2, 2), ask(3, 2 ** 64 - 1), commit(0), cancel(1), commit(0), commit(2), commit(15), ask(1, 1), ask(16, 1))
+        yield 'a desk that no call made, %d' % n, fill(k, held, committed) + calls + opened(2) + ask(1, 1)
+
+
+def desk_cases():
+    for title, calls in [*desk_rules(), *desk_limits()]:
+        yield 'desk: ' + title, opened(3) + calls
+    for title, calls in [*desk_opened_cases(), *refused_openings(), *filled_desks()]:
+        yield 'desk: ' + title, calls
+
+
 # ---- all of them
 
 DRAWN = {'small': 6, 'deep': 2, 'wide': 1, 'ties': 5, 'few': 3, 'unreached': 3, 'crossing': 6, 'many': 1, 'edge': 2, 'full': 1, 'faults': 6, 'noise': 8}
 DRAWN_STOPS = {'stops': 3, 'post_0_stops': 1, 'stops_deep': 1, 'stops_each_stage': 1, 'stops_everywhere': 1, 'stops_edge': 2, 'stops_unreached': 1,
                'sure_stops': 1, 'stops_barely': 1, 'stops_and_ties': 2, 'stops_and_gains': 1, 'stops_wide': 1, 'stops, faults': 3}
 DRAWN_ROWS = {'six': 2, 'stops_six': 2, 'seven': 6}
+DRAWN_DESKS = {'desk': 10}
 
 
 def made(*groups):
@@ -513,6 +586,8 @@ def stored():
     cases += drawn(DRAWN_STOPS, sum(DRAWN.values()))
     cases += made(limits(row_limits()), row_order_cases(), row_record_cases())
     cases += drawn(DRAWN_ROWS, sum(DRAWN.values()) + sum(DRAWN_STOPS.values()))
+    cases += made(desk_cases())
+    cases += drawn(DRAWN_DESKS, sum(DRAWN.values()) + sum(DRAWN_STOPS.values()) + sum(DRAWN_ROWS.values()))
     return [case._replace(title='%d %s' % (n, case.title)) for n, case in enumerate(cases)]
 
 

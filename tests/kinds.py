@@ -3,10 +3,11 @@
 import random
 
 import books
+import desk
 import machine
 import reference as ref
 import search
-from machine import BOOK, OUT, Case, Command, accept, book_bytes, head, page, put, rank, show, value, write
+from machine import BOOK, OUT, Case, Command, accept, ask, book_bytes, cancel, commit, fill, head, opening, page, put, rank, show, value, write
 
 MOST_INPUT = machine.PLACES - BOOK + 4
 
@@ -314,6 +315,46 @@ def record_input(rng):
             return found
 
 
+# ---- calls at a desk
+
+def any_ranks(rng):
+    """Ranks that no call put there: small ones often, so that some are there twice."""
+    most = rng.choice([3, 20, 2 ** 64])
+    return [rng.choice([0, 0, rng.randrange(most), 2 ** 64 - 1]) for _ in range(desk.RIDERS)]
+
+
+def first_of_desk(rng):
+    """A fresh desk, one that is opened, or one with any content; with k, or about that."""
+    start = rng.randrange(8)
+    if start == 0:
+        return [], 3
+    if start < 3:
+        k = rng.choice([0, 1, 5, 64, 2 ** 64 - 1])
+        return fill(k, any_ranks(rng), any_ranks(rng)), min(k, 64)
+    words, most = some_plans(rng)
+    return opening(ref.record(words, most)), min(most, len(ref.in_order(tuple(words))))
+
+
+def desk_call(rng, k):
+    rider = rng.choice([2 ** 32 + 3, 2 ** 63, 2 ** 64 - 1]) if rng.random() < 0.03 else rng.randrange(18)
+    kind = rng.random()
+    if kind < 0.6:
+        return ask(rider, rng.choice([0, k + 1, 2 ** 32 + 1, 2 ** 64 - 1]) if rng.random() < 0.1 else rng.randint(1, max(1, k)))
+    return commit(rider) if kind < 0.8 else cancel(rider)
+
+
+def at_desk(rng):
+    """Calls at a desk, an opening that is refused or another that is granted among them."""
+    for _ in range(rng.choice([1, 1, 2])):
+        first, k = first_of_desk(rng)
+        yield from first
+        for _ in range(rng.randint(10, 60)):
+            yield from desk_call(rng, k)
+        yield from opening(record_input(rng)[:BOOK - OUT])
+        for _ in range(rng.randrange(10)):
+            yield from desk_call(rng, k)
+
+
 # ---- which kinds there are
 
 def good_of(shape):
@@ -336,7 +377,7 @@ KINDS = {name: (weight, good_of(getattr(books, name))) for name, weight in SHAPE
 KINDS.update({'fault %d' % n: (36, fault(n)) for n in range(1, 14)})
 KINDS.update({'seven': (40, seven), 'vast': (16, vast), 'faults': (120, faults(FAULTY)), 'stops, faults': (120, faults(FAULTY_STOPS)), 'wild': (60, wild),
               'bad counts': (60, bad_counts), 'noise': (140, noise), 'forged': (36, forged), 'longest': (4, longest), 'powers': (10, powers),
-              'page': (200, some_page)})
+              'page': (200, some_page), 'desk': (120, at_desk)})
 
 
 def make(seed, n, name):

@@ -1,15 +1,16 @@
-"""The commands of the program `cases`, as its head lists them, and what it has to print for them by reference.py."""
+"""The commands of the program `cases`, as its head lists them, and what it has to print for them by reference.py and desk.py."""
 
 import collections
 import contextlib
 
+import desk
 import reference as ref
 import search
 
 KINDS = {'end': 'e', 'read': 'i', 'text': 't', 'book': 'm', 'rank': 'r', 'write': 'w', 'check': 'c', 'least': 'l', 'value': 'v', 'power': 'd', 'accept': 'a',
-         'show': 's', 'browse': 'b', 'page': 'p'}
+         'show': 's', 'browse': 'b', 'page': 'p', 'open': 'o', 'ask': 'h', 'commit': 'y', 'cancel': 'n', 'fill': 'f'}
 PLACES, MOST_COSTS, FILL = 40960, 80, 77
-OUT, BOOK, TEXT = 8, 21504, 38400    # after k: where lent slices and records are put, books, and plans and titles
+OUT, BOOK, TEXT = 8, 21504, 38400    # after k: where lent slices and records are put, books, and plans, titles and numbers for the desk
 PRINTED = 32
 PRIME = 2 ** 55 - 55
 
@@ -69,6 +70,32 @@ def page(length, at=BOOK - 4):
     return Command('page', at, at + length)
 
 
+def numbers(kind, *row):
+    """A command at the desk with its numbers, of eight bytes each."""
+    content = b''.join(little(n, 8) for n in row)
+    return [put(content, TEXT), Command(kind, TEXT, TEXT + len(content))]
+
+
+def opening(record):
+    return [put(record), Command('open', OUT, OUT + len(record))]
+
+
+def ask(rider, rank):
+    return numbers('ask', rider, rank)
+
+
+def commit(rider):
+    return numbers('commit', rider)
+
+
+def cancel(rider):
+    return numbers('cancel', rider)
+
+
+def fill(k, held, committed):
+    return numbers('fill', k, *held, *committed)
+
+
 # ---- the input
 
 def encode(c):
@@ -97,6 +124,14 @@ def row(*figures):
     return ''.join(' %d' % x for x in figures) + '\n'
 
 
+def number_at(part, at):
+    return int.from_bytes(part[at:at + 8], 'little') if len(part) >= at + 8 else 0
+
+
+def ranks_row(ranks):
+    return row(*[min(rank, 2 ** 63 - 1) for rank in ranks])
+
+
 def bytes_row(content):
     if len(content) <= PRINTED:
         return row(*content)
@@ -107,10 +142,10 @@ def bytes_row(content):
 
 
 class Machine:
-    """The two places of a case. A call prints its number and two figures, then all of the lent slices."""
+    """The three places of a case. A call prints its number and two figures, then all of the lent slices, or all of the desk."""
 
     def __init__(self):
-        self.words, self.bytes = [], bytearray([FILL]) * PLACES
+        self.words, self.bytes, self.desk = [], bytearray([FILL]) * PLACES, desk.Desk()
 
     def run(self, c):
         text = getattr(self, c.kind)(c, bytes(self.bytes[c.x:c.y]))
@@ -163,6 +198,29 @@ class Machine:
 
     def page(self, c, part):
         return '\n' + ref.page(part).decode()
+
+
+    def at_desk(self, no, part):
+        rider = number_at(part, 0)
+        figures = ranks_row([no, self.desk.held_by(rider), self.desk.committed_by(rider)])
+        return figures + ranks_row([self.desk.k]) + ranks_row(self.desk.held) + ranks_row(self.desk.committed)
+
+    def open(self, c, part):
+        no, _, k = ref.accept(part)
+        return self.at_desk(self.desk.open(no, k), part)
+
+    def ask(self, c, part):
+        return self.at_desk(self.desk.ask(number_at(part, 0), number_at(part, 8)), part)
+
+    def commit(self, c, part):
+        return self.at_desk(self.desk.commit(number_at(part, 0)), part)
+
+    def cancel(self, c, part):
+        return self.at_desk(self.desk.cancel(number_at(part, 0)), part)
+
+    def fill(self, c, part):
+        numbers = [number_at(part, 8 * i) for i in range(1 + 2 * desk.RIDERS)]
+        self.desk = desk.Desk(numbers[0], numbers[1:1 + desk.RIDERS], numbers[1 + desk.RIDERS:])
 
 
 def transcript(case):

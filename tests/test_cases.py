@@ -16,6 +16,7 @@ import reference as ref
 
 BOOK = range(14)    # 0, and the questions 1 to 13
 NUMBERS = {'check': {*BOOK}, 'least': {*BOOK}, 'value': {*BOOK, 17}, 'rank': {*BOOK, 14, 15, 16}, 'write': {*BOOK, 14, 18}, 'accept': {*BOOK, 14, 19, 20, 21}}
+AT_DESK = {'open': NUMBERS['accept'], 'ask': {0, 22, 23, 24}, 'commit': {0, 22, 24}, 'cancel': {0, 22}}
 
 
 class Stored(unittest.TestCase):
@@ -33,11 +34,12 @@ class Stored(unittest.TestCase):
             self.assertTrue(f.read() == ''.join(text for _, text in self.transcripts), 'run tests/cases.py')
 
     def test_numbers(self):
-        found = {name: set() for name in NUMBERS}
+        wanted = {**NUMBERS, **AT_DESK}
+        found = {name: set() for name in wanted}
         for c, text in self.transcripts:
-            if c.kind in NUMBERS:
+            if c.kind in wanted:
                 found[c.kind].add(int(text.split()[1]))
-        self.assertEqual(found, NUMBERS)
+        self.assertEqual(found, wanted)
 
     def test_stops(self):
         """Each call is accepted in many cases of a book with stops, and in many of a book without."""

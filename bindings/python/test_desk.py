@@ -15,12 +15,11 @@ import desk
 import kbest
 import kinds
 import reference
-from test_cases import NUMBERS
+from test_cases import AT_DESK
 from test_random import answer, same
 
 SEED = 'desk'
 RECORDS, SEQUENCES, CALLS = 400, 360, 72
-CAN_GIVE = {'open': NUMBERS['accept'], 'ask': {0, 22, 23, 24}, 'commit': {0, 22, 24}, 'cancel': {0, 22}}
 NO_RIDERS = [18, 255, 2 ** 32 + 3, 2 ** 63, 2 ** 64 - 1, 2 ** 64, 2 ** 64 + 3, -1, -2 ** 64 + 5]
 NO_RANKS = [0, 65, 2 ** 32 + 1, 2 ** 64 - 1, 2 ** 64, 2 ** 64 + 1, -1, -2 ** 64 + 1]
 LOOKED_UP = [*range(18), *NO_RIDERS]
@@ -115,14 +114,14 @@ class Compared:
 
 
 def main():
-    records, seen = drawn_records(), {name: set() for name in CAN_GIVE}
+    records, seen = drawn_records(), {name: set() for name in AT_DESK}
     for n in range(SEQUENCES):
         compared = Compared(random.Random('%s, sequence %d' % (SEED, n)), records, seen)
         try:
             compared.run([[], [compared.open_accepted], [compared.fill]][n % 3])
         except AssertionError as fault:
             sys.exit('sequence %d, %s\n%s' % (n, fault, '\n'.join(compared.done)))
-    same('the numbers that the calls have given', seen, CAN_GIVE)
+    same('the numbers that the calls have given', seen, AT_DESK)
     print('%d sequences of %d calls on desks: number, desk and look-ups agree with the rules after each call, and all numbers were given'
           % (SEQUENCES, CALLS))
 

@@ -1,8 +1,8 @@
 // Puts test cases from standard input to the calls, and prints what each call gives. tests/cases.py makes the input, and the output that is expected.
 //
-// A case is a row of commands over two places, new for each case: the words of a book, none at first, and 40,960 bytes, each 77. A command is six
-// bytes: its kind (a letter), z, and x and y of two bytes each, low byte first. Its part is the bytes from x up to y, and k is the number of the first
-// eight bytes. Nothing that is read can make a range wrong: every end is cut to the place that it is used on.
+// A case is a row of commands over three places, new for each case: the words of a book, none at first, 40,960 bytes, each 77, and a fresh desk. A
+// command is six bytes: its kind (a letter), z, and x and y of two bytes each, low byte first. Its part is the bytes from x up to y, and k is the number
+// of the first eight bytes. Nothing that is read can make a range wrong: every end is cut to the place that it is used on.
 //
 //  e  ends the case                         l  gives the least cost
 //  i  reads the part from the input         v  values the part as a policy
@@ -13,9 +13,18 @@
 //     and the part                          p  prints the page of the part
 //  w  writes their record into the part
 //
+// At the desk the part has numbers of eight bytes, 0 where they are missing: the rider and the rank.
+//
+//  o  opens the desk with the part          y  commits for the rider
+//  h  asks for the rank for the rider       n  cancels for the rider
+//  f  fills the desk: k, then the ranks held and the ranks committed
+//
 // A call prints its letter, then its number and two figures, 0 where it has none, and all that the lent slices hold after it (for w the z costs too);
-// s and b print the bytes that they show.
+// s and b print the bytes that they show. The figures of a call at the desk are the ranks that the rider holds and has committed to; k and all ranks
+// follow.
 ghost use Prim.Native.Nat.{_<_, _≤_};
+use reservation::Answer;
+use reservation::Desk;
 
 struct Head {
     kind: u8,
@@ -162,6 +171,93 @@ fn print_part(h: Head, part: &[u8]) {
     }
 }
 
+// ---- the desk
+
+fn at_desk(kind: u8) -> bool {
+    kind == b'o' || kind == b'h' || kind == b'y' || kind == b'n' || kind == b'f'
+}
+
+// The number of the eight bytes from a place on.
+fn number_at(bytes: &[u8], at: usize) -> usize
+    requires { ⌜ at < 4096 ⌝ }
+{
+    if bytes.len() < at + 8 {
+        return 0;
+    }
+    (bytes_io::read4(bytes, at) + 4294967296 * bytes_io::read4(bytes, at + 4)) as usize
+}
+
+fn ranks_at(part: &[u8], from: usize) -> [usize; 16]
+    requires { ⌜ from < 2048 ⌝ }
+{
+    let mut ranks = [0usize; 16];
+    let mut i: usize = 0;
+    while i < 16 {
+        ranks[i] = number_at(part, from + 8 * i);
+        i = i + 1;
+    }
+    ranks
+}
+
+fn print_ranks(ranks: &[usize; 16]) {
+    let mut i: usize = 0;
+    while i < 16 {
+        print_signed(figure(ranks[i]));
+        i = i + 1;
+    }
+    io::write_all(1, b"\n");
+}
+
+fn turn(h: Head, desk: Desk, part: &[u8]) -> Answer {
+    if h.kind == b'o' {
+        return desk::opened(desk, part);
+    }
+    let rider = number_at(part, 0);
+    if h.kind == b'h' {
+        return desk.asking(rider, number_at(part, 8));
+    }
+    if h.kind == b'y' {
+        return desk.committing(rider);
+    }
+    desk.cancelling(rider)
+}
+
+// Gives the desk afterwards.
+fn serve(h: Head, desk: Desk, part: &[u8]) -> Desk {
+    if h.kind == b'f' {
+        return Desk {
+            k: number_at(part, 0),
+            held: ranks_at(part, 8),
+            committed: ranks_at(part, 136),
+        };
+    }
+    let a = turn(h, desk, part);
+    let next = a.desk;
+    let rider = number_at(part, 0);
+    print_answer(
+        h.kind,
+        [
+            a.no as i64,
+            figure(next.held_by(rider)),
+            figure(next.committed_by(rider)),
+        ],
+    );
+    print_row(&[figure(next.k)]);
+    print_ranks(&next.held);
+    print_ranks(&next.committed);
+    next
+}
+
+// Any other command leaves the desk.
+fn serve_part(h: Head, desk: Desk, bytes: &[u8]) -> Desk {
+    if !at_desk(h.kind) {
+        return desk;
+    }
+    let end = lesser(h.y, bytes.len());
+    let from = lesser(h.x, end);
+    serve(h, desk, &bytes[from..end])
+}
+
 // ---- commands
 
 fn book_of(part: &[u8], words: &mut [i32]) -> usize {
@@ -184,7 +280,7 @@ fn call(h: Head, b: &[i32], part: &mut [u8]) {
         run_lent(h, b, part);
     } else if h.kind == b's' || h.kind == b'b' || h.kind == b'p' {
         print_part(h, part);
-    } else {
+    } else if !at_desk(h.kind) {
         print_answer(h.kind, ask(h, b, part));
     }
 }
@@ -210,13 +306,6 @@ fn obey(h: Head, n: usize, words: &mut [i32], bytes: &mut [u8]) -> usize {
     act(h, n, words, &mut bytes[from..end])
 }
 
-fn low_number(bytes: &[u8]) -> usize {
-    if bytes.len() < 8 {
-        return 0;
-    }
-    (bytes_io::read4(bytes, 0) + 4294967296 * bytes_io::read4(bytes, 4)) as usize
-}
-
 // At the end of the input the bytes stay as they are here: the case ends, with z = 1.
 fn next_head(bytes: &[u8]) -> Head {
     let mut b = [b'e', 1, 0, 0, 0, 0];
@@ -225,7 +314,7 @@ fn next_head(bytes: &[u8]) -> Head {
     Head {
         kind: b[0],
         z: b[1],
-        k: low_number(bytes),
+        k: number_at(bytes, 0),
         x: (ends % 65536) as usize,
         y: (ends / 65536) as usize,
     }
@@ -234,6 +323,7 @@ fn next_head(bytes: &[u8]) -> Head {
 // Does the input go on after the case? Nothing says that it ends, so the commands are counted down from a number that no input uses up.
 fn run_commands(words: &mut [i32], bytes: &mut [u8]) -> bool {
     let mut n: usize = 0;
+    let mut desk = Desk::fresh();
     let mut left = u64::MAX;
     while left > 0 {
         let h = next_head(bytes);
@@ -241,6 +331,7 @@ fn run_commands(words: &mut [i32], bytes: &mut [u8]) -> bool {
             return h.z == 0;
         }
         n = obey(h, n, words, bytes);
+        desk = serve_part(h, desk, bytes);
         left = left - 1;
     }
     false

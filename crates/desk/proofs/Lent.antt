@@ -23,15 +23,15 @@ use Rattle.reservation.proofs.Answer.Laws as R′
 abbrev pub desk : Desk → Val
 desk d = LL.val D.the-type D′.the-laws d
 
-abbrev pub reply : Answer → Val
-reply a = LL.val R.the-type R′.the-laws a
+abbrev pub answered : Answer → Val
+answered a = LL.val R.the-type R′.the-laws a
 
 module _ {M : Type 1} (𝓤 : URA M) (H : Heap 𝓤) (A : Atoms 𝓤) (W : Given 𝓤 H A) where
   pub desk-typed : (d : Desk) (v : Val) → Is D.the-row d (v ∷ []) → Holds (hasTy D′.mir v) × WT v
   desk-typed d v p = LL.lawful D.the-type D′.the-laws 𝓤 H A W .typed d (v ∷ []) p .0
 
-  pub reply-typed : (a : Answer) (v : Val) → Is R.the-row a (v ∷ []) → Holds (hasTy R′.mir v) × WT v
-  reply-typed a v p = LL.lawful R.the-type R′.the-laws 𝓤 H A W .typed a (v ∷ []) p .0
+  pub answer-typed : (a : Answer) (v : Val) → Is R.the-row a (v ∷ []) → Holds (hasTy R′.mir v) × WT v
+  answer-typed a v p = LL.lawful R.the-type R′.the-laws 𝓤 H A W .typed a (v ∷ []) p .0
 
 -- the desk of an answer
 pub desk-of : (a : Answer) (v : Val) → Is R.the-row a (v ∷ []) → Is D.the-row (a .desk) (desk (a .desk) ∷ [])

@@ -38,11 +38,12 @@ use denote.Triple.Walked.{says, Stays, stay-ref, stay-none, walkOf, goes-ref, go
 use denote.Exit.{yes}
 use Rattle.reservation.specs.declared.Desk.{Desk}
 use Rattle.reservation.specs.declared.Answer.{Answer}
+use Rattle.reservation.specs.Reservations.{reply}
 use Rattle.reservation.proofs.Desk as D
 use Rattle.reservation.proofs.Desk.Laws as D′
 use Rattle.reservation.proofs.Answer as R
 use Rattle.reservation.proofs.Answer.Laws as R′
-use Rattle.desk.proofs.Lent.{desk, reply, desk-typed, reply-typed, desk-of, no-fits}
+use Rattle.desk.proofs.Lent.{desk, desk-typed, answer-typed, desk-of, no-fits}
 
 -- the signatures: of g, and of the function that is lent the desk
 abbrev valued : Ended
@@ -76,7 +77,7 @@ module _ (g : Name) (f : Desk → ℕ → ℕ → Answer) {M : Type 1} (𝓤 : U
   clauses κs args = record {
     ghost = Unit {0};
     requires = λ g. emp 𝓤;
-    ensures = λ g r end. fact 𝓤 ((r ≡ f (args .0 .now) (args .1 .0) (args .1 .1 .0) .no) × (end .0 .now ≡ f (args .0 .now) (args .1 .0) (args .1 .1 .0) .desk));
+    ensures = λ g r end. fact 𝓤 (reply r (end .0 .now) ≡ f (args .0 .now) (args .1 .0) (args .1 .1 .0));
   }
 
   abbrev Known : Contract 𝓤
@@ -112,7 +113,7 @@ module _ (g : Name) (f : Desk → ℕ → ℕ → Answer) {M : Type 1} (𝓤 : U
     exits a e no-fits =
         qed W (‵ (fobs γ (D.the-row .coded .code (a .desk))) ∷ ‵ (fbor κ (Body (mem D.the-row) b o γ)) ∷ ‵ (flft κ q) ∷ []) ∵
         suffices ! _ (ends-at 𝓤 H A lent stayed clauses W bound (vint w32 (a .no)) (a .no) (a .desk, (tt, (tt, tt))) (tt, (tt, (tt, tt)))) $
-        says ! (ap (λ (r : Answer). r .no) e, ap (λ (r : Answer). r .desk) e) $ nothing ! $ move ! (3 ∷ 0 ∷ []) $ join ! $
+        says ! e $ nothing ! $ move ! (3 ∷ 0 ∷ []) $ join ! $
         frame ! $ feqI ! (List Val) (vptr b o ∷ []) (vptr b o ∷ []) refl $ fjoin3 ! $ nothing ! $ owned ! usize (Is usize) (uint-makes 𝓤 H A W w64) m _ (refl, fits′) $ fjoin ! $ owned ! usize (Is usize) (uint-makes 𝓤 H A W w64) n _ (refl, fits) $ fjoin ! $ move ! (1 ∷ 0 ∷ []) $ fjoin ! $
         owned ! u32 (Is u32) (uint-makes 𝓤 H A W w32) (a .no) _ (refl, no-fits) $ move ! (1 ∷ 0 ∷ []) $ done !
 
@@ -133,7 +134,7 @@ module _ (g : Name) (f : Desk → ℕ → ℕ → Answer) {M : Type 1} (𝓤 : U
           use1 W (later (some (λ (a : Answer). (‵ ftrue ⊛ ‵ (R.the-row .own a (u ∷ []))) ⊛ raw (ensured 𝓤 H A valued gives tt (d, (n, (m, tt))) tt a)))) (id⊢ 𝓤 _) $ await ! tt $ pick ! (λ a.
           split ! $ move ! (1 ∷ []) $ use1 W (raw (fact 𝓤 (a ≡ f d n m))) (said a) $ heard ! (a ≡ f d n m) (λ e. split ! $ drop ! $
           peeks ! R.the-row (Is R.the-row) (shows 𝓤 H A R.the-row) a (u ∷ []) (λ is.
-          land ! (from ! (stop !)) (init ! 8 refl (reply-typed 𝓤 H A W a _ is)) $ drop ! $
+          land ! (from ! (stop !)) (init ! 8 refl (answer-typed 𝓤 H A W a _ is)) $ drop ! $
           rewrite ! 7 (λ (v : Val). ‵ (fat fullShare R′.mir l₄ 0 v)) (ap only (LL.tells R.the-type R′.the-laws a _ is)) refl $
           -- [the desk; the open borrow; obs; auth; what the numbers own; _5; …; _4; …; _3; …; _2; …; _1; …; room for _0; …]
           assigns ! (of-opd ! (load ! (from ! (fld ! refl (stop !))) (look-in ! 7 (sub ! 1 refl (whole !))))) (from ! (hop ! (look ! 13 refl) (stop !))) (store-raw ! 0 refl (desk-typed 𝓤 H A W (a .desk) _ (desk-of a u is))) $

@@ -1,55 +1,61 @@
 // The desk in the caller's memory: each call takes the desk from there, asks for the next and puts that in its place.
 ghost use mathlib.Core.Path.{_≡_};
-ghost use Rattle.reservation.specs.Reservations.{heldBy, committedBy, asking, committing, cancelling, opening};
+ghost use Rattle.reservation.specs.Reservations.{heldBy, committedBy, reply, asking, committing, cancelling, opening};
 use reservation::Answer;
 use reservation::Desk;
 
 // Opening by value: the record's questions are asked.
-fn opened(desk: Desk, record: &[u8]) -> Answer
+pub fn opened(desk: Desk, record: &[u8]) -> Answer
     ensures { λ a. ⌜ a ≡ opening desk (now («record» .entry)) ⌝ }
 {
     let a = accept::accept(record);
     desk.opening(a.no, a.k)
 }
 
+// Holds a rank for a rider, whose earlier hold is dropped.
 pub fn ask(desk: &mut Desk, rider: usize, rank: usize) -> u32
-    ensures { λ r. ⌜ (r ≡ asking (now (desk .entry)) rider rank .no) × (now (desk .exit) ≡ asking (now (desk .entry)) rider rank .desk) ⌝ }
+    ensures { λ r. ⌜ reply r (now (desk .exit)) ≡ asking (now (desk .entry)) rider rank ⌝ }
 {
     let a = desk.asking(rider, rank);
     *desk = a.desk;
     a.no
 }
 
+// The rank that the rider holds becomes theirs.
 pub fn commit(desk: &mut Desk, rider: usize) -> u32
-    ensures { λ r. ⌜ (r ≡ committing (now (desk .entry)) rider .no) × (now (desk .exit) ≡ committing (now (desk .entry)) rider .desk) ⌝ }
+    ensures { λ r. ⌜ reply r (now (desk .exit)) ≡ committing (now (desk .entry)) rider ⌝ }
 {
     let a = desk.committing(rider);
     *desk = a.desk;
     a.no
 }
 
+// Drops what the rider holds, and never a commitment.
 pub fn cancel(desk: &mut Desk, rider: usize) -> u32
-    ensures { λ r. ⌜ (r ≡ cancelling (now (desk .entry)) rider .no) × (now (desk .exit) ≡ cancelling (now (desk .entry)) rider .desk) ⌝ }
+    ensures { λ r. ⌜ reply r (now (desk .exit)) ≡ cancelling (now (desk .entry)) rider ⌝ }
 {
     let a = desk.cancelling(rider);
     *desk = a.desk;
     a.no
 }
 
+// Opens the desk, also anew, with the k of a record that is accepted.
 pub fn open(desk: &mut Desk, record: &[u8]) -> u32
-    ensures { λ r. ⌜ (r ≡ opening (now (desk .entry)) (now («record» .entry)) .no) × (now (desk .exit) ≡ opening (now (desk .entry)) (now («record» .entry)) .desk) ⌝ }
+    ensures { λ r. ⌜ reply r (now (desk .exit)) ≡ opening (now (desk .entry)) (now («record» .entry)) ⌝ }
 {
     let a = opened(*desk, record);
     *desk = a.desk;
     a.no
 }
 
+// The rank that a rider holds, 0 none.
 pub fn held(desk: &Desk, rider: usize) -> usize
     ensures { λ r. ⌜ r ≡ heldBy (now (desk .entry)) rider ⌝ }
 {
     desk.held_by(rider)
 }
 
+// The rank that a rider has committed to, 0 none.
 pub fn committed(desk: &Desk, rider: usize) -> usize
     ensures { λ r. ⌜ r ≡ committedBy (now (desk .entry)) rider ⌝ }
 {

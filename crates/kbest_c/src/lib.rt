@@ -4,7 +4,7 @@ ghost use lib.ListN.{length, take, drop};
 ghost use Rattle.model.specs.Questions.{bookNumber};
 ghost use Rattle.model.specs.Record.{acceptNumber};
 ghost use Rattle.model.specs.Calls.{powerOf, valueNumber, valueCost, leastCost, roomOf, rankNumber, rankCount, rankCosts, rankPlans, writeNumber, writeLength, writeRecord, acceptStates, acceptCount, shown};
-ghost use Rattle.reservation.specs.Reservations.{heldBy, committedBy, openFor, asking, committing, cancelling, opening};
+ghost use Rattle.reservation.specs.Reservations.{heldBy, committedBy, openFor, reply, asking, committing, cancelling, opening};
 ghost use Rattle.kbest_c.specs.Part.{shownOffset, shownLength};
 ghost use Rattle.kbest_c.specs.Version.{version};
 use reservation::Desk;
@@ -119,7 +119,7 @@ pub extern "C" fn kbest_desk_fresh() -> Desk
 // The number of opening a desk with a record; the desk afterwards has its k, and nothing held or committed.
 #[no_mangle]
 pub extern "C" fn kbest_desk_open(desk: &mut Desk, filed: &[u8]) -> u32
-    ensures { λ r. ⌜ (r ≡ opening (now (desk .entry)) (now (filed .entry)) .no) × (now (desk .exit) ≡ opening (now (desk .entry)) (now (filed .entry)) .desk) ⌝ }
+    ensures { λ r. ⌜ reply r (now (desk .exit)) ≡ opening (now (desk .entry)) (now (filed .entry)) ⌝ }
 {
     desk::open(desk, filed)
 }
@@ -127,7 +127,7 @@ pub extern "C" fn kbest_desk_open(desk: &mut Desk, filed: &[u8]) -> u32
 // The number of asking: the rank is then held for the rider.
 #[no_mangle]
 pub extern "C" fn kbest_desk_ask(desk: &mut Desk, rider: usize, rank: usize) -> u32
-    ensures { λ r. ⌜ (r ≡ asking (now (desk .entry)) rider rank .no) × (now (desk .exit) ≡ asking (now (desk .entry)) rider rank .desk) ⌝ }
+    ensures { λ r. ⌜ reply r (now (desk .exit)) ≡ asking (now (desk .entry)) rider rank ⌝ }
 {
     desk::ask(desk, rider, rank)
 }
@@ -135,7 +135,7 @@ pub extern "C" fn kbest_desk_ask(desk: &mut Desk, rider: usize, rank: usize) -> 
 // The number of committing: the rank that the rider holds is then theirs.
 #[no_mangle]
 pub extern "C" fn kbest_desk_commit(desk: &mut Desk, rider: usize) -> u32
-    ensures { λ r. ⌜ (r ≡ committing (now (desk .entry)) rider .no) × (now (desk .exit) ≡ committing (now (desk .entry)) rider .desk) ⌝ }
+    ensures { λ r. ⌜ reply r (now (desk .exit)) ≡ committing (now (desk .entry)) rider ⌝ }
 {
     desk::commit(desk, rider)
 }
@@ -143,7 +143,7 @@ pub extern "C" fn kbest_desk_commit(desk: &mut Desk, rider: usize) -> u32
 // The number of cancelling: the rider then holds no rank.
 #[no_mangle]
 pub extern "C" fn kbest_desk_cancel(desk: &mut Desk, rider: usize) -> u32
-    ensures { λ r. ⌜ (r ≡ cancelling (now (desk .entry)) rider .no) × (now (desk .exit) ≡ cancelling (now (desk .entry)) rider .desk) ⌝ }
+    ensures { λ r. ⌜ reply r (now (desk .exit)) ≡ cancelling (now (desk .entry)) rider ⌝ }
 {
     desk::cancel(desk, rider)
 }

@@ -79,9 +79,13 @@ taking d rider = record { k = d .k; held = set (d .held) rider 0; committed = se
 
 -- ---- the calls
 
--- the number, and the next desk, or the same desk where the call is refused
+-- what a call gives: its number, and the desk afterwards
+abbrev pub reply : ℕ → Desk → Answer
+reply n d = record { no = n; desk = d }
+
+-- the next desk, or the same where the call is refused
 abbrev pub answer : ℕ → Desk → Desk → Answer
-answer n next d = record { no = n; desk = ifAccepted n next d }
+answer n next d = reply n (ifAccepted n next d)
 
 -- "A granted ask drops the rider's earlier hold; a refused one changes nothing."
 unfoldable pub asking : Desk → ℕ → ℕ → Answer

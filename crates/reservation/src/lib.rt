@@ -10,7 +10,7 @@ ghost use Rattle.reservation.specs.Reservations.{heldBy, committedBy, fr
 // How many riders there are.
 const RIDERS: usize = 16;
 
-// Which rank of the record is whose.
+// What is reserved (document 02: the desk): which rank of the record is whose.
 #[repr(C)]
 pub struct Desk {
     // how many plans the record lists; 0 before a record is opened
@@ -175,6 +175,7 @@ impl Desk {
         self.answer(no, self.holding(rider, rank))
     }
 
+    // The rank held becomes the rider's.
     pub fn committing(self, rider: usize) -> Answer
         ensures { λ a. ⌜ a ≡ committing self rider ⌝ }
     {

@@ -7,10 +7,10 @@ use Rattle.cases.proofs.run_commands.Statement.{statement}
 use Rattle.cases.proofs.run_commands.Tie as tie
 
 abbrev Inv-loop : tie.InvT-loop
-Inv-loop words₀ bytes₀ n₀ left₀ words bytes n left = (length words ≡ length words₀) × (length bytes ≡ length bytes₀)
+Inv-loop words₀ bytes₀ n₀ desk₀ left₀ words bytes n desk left = (length words ≡ length words₀) × (length bytes ≡ length bytes₀)
 
 abbrev μ-loop : tie.MeasureT-loop
-μ-loop words₀ bytes₀ n₀ left₀ words bytes n left = left
+μ-loop words₀ bytes₀ n₀ desk₀ left₀ words bytes n desk left = left
 
 pub run-commands-spec : {M : Type 1} → statement M
 run-commands-spec =
@@ -18,11 +18,13 @@ run-commands-spec =
     (tie.spec
     Inv-loop
     μ-loop
+    (λ c κs. search needs)
     (λ c. search needs)
     (λ c κs. search needs)
     (λ c. search needs)
     (λ c. search needs)
     (λ c. search needs)
+    (λ c κs. search needs)
     (λ c κs. search needs)
     (λ c. search needs)
     (λ c. search needs)

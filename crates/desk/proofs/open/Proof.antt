@@ -50,7 +50,7 @@ use Rattle.reservation.proofs.Desk as D
 use Rattle.reservation.proofs.Desk.Laws as D′
 use Rattle.reservation.proofs.Answer as R
 use Rattle.reservation.proofs.Answer.Laws as R′
-use Rattle.desk.proofs.Lent.{desk, desk-typed, reply-typed, desk-of, no-fits}
+use Rattle.desk.proofs.Lent.{desk, desk-typed, answer-typed, desk-of, no-fits}
 use Rattle.desk.proofs.opened as called
 use Rattle.desk.proofs.opened.Symbol as called-def
 use Rattle.desk.proofs.opened.Met as called-thm
@@ -112,7 +112,7 @@ module _ {M : Type 1} (𝓤 : URA M) (H : Heap 𝓤) (A : Atoms 𝓤) (W : Given
     exits a e fits =
         qed W (‵ (fobs γ (D.the-row .coded .code (a .desk))) ∷ ‵ (fbor κ (Body (mem D.the-row) b o γ)) ∷ ‵ (flft κ q) ∷ Token ∷ ‵ Own ∷ []) ∵
         suffices ! _ (ends-at 𝓤 H A open′.ended stayed (open′.clauses 𝓤 H A at-mem run) W bound (vint w32 (a .no)) (a .no) (a .desk, (tt, tt)) (tt, (tt, tt))) $
-        says ! (ap (λ (z : Answer). z .no) e, ap (λ (z : Answer). z .desk) e) $ move ! (2 ∷ 3 ∷ []) $ join ! $
+        says ! e $ move ! (2 ∷ 3 ∷ []) $ join ! $
         frame ! $ feqI ! (List Val) (vptr b o ∷ []) (vptr b o ∷ []) refl $ fjoin3 ! $ nothing ! $ move ! (2 ∷ 0 ∷ []) $ fjoin ! $ move ! (1 ∷ 0 ∷ []) $ fjoin ! $
         owned ! u32 (Is u32) (uint-makes 𝓤 H A W w32) (a .no) _ (refl, fits) $ move ! (1 ∷ 0 ∷ []) $ done !
 
@@ -133,7 +133,7 @@ module _ {M : Type 1} (𝓤 : URA M) (H : Heap 𝓤) (A : Atoms 𝓤) (W : Given
           use1 W (later (some (λ (a : Answer). (Token ⊛ ‵ (R.the-row .own a (u ∷ []))) ⊛ raw (ensured 𝓤 H A called.ended (called.clauses 𝓤 H A at-mem run) (κ′, tt) (d, (r, tt)) tt a)))) (id⊢ 𝓤 _) $ await ! tt $ pick ! (λ a.
           split ! $ move ! (1 ∷ []) $ use1 W (raw (fact 𝓤 (a ≡ opening d (r .now)))) (said a) $ heard ! (a ≡ opening d (r .now)) (λ e. split ! $ move ! (1 ∷ []) $
           peeks ! R.the-row (Is R.the-row) (shows 𝓤 H A R.the-row) a (u ∷ []) (λ is.
-          land ! (from ! (stop !)) (init ! 9 refl (reply-typed 𝓤 H A W a _ is)) $ drop ! $
+          land ! (from ! (stop !)) (init ! 9 refl (answer-typed 𝓤 H A W a _ is)) $ drop ! $
           rewrite ! 8 (λ (w : Val). ‵ (fat fullShare R′.mir l₃ 0 w)) (ap only (LL.tells R.the-type R′.the-laws a _ is)) refl $
           -- [the token of the record; what the record owns; the desk; the open borrow; obs; auth; _4; …; _3; …; _2; …; _1; …; room for _0; …]
           assigns ! (of-opd ! (load ! (from ! (fld ! refl (stop !))) (look-in ! 8 (sub ! 1 refl (whole !))))) (from ! (hop ! (look ! 12 refl) (stop !))) (store-raw ! 2 refl (desk-typed 𝓤 H A W (a .desk) _ (desk-of a u is))) $
