@@ -482,31 +482,35 @@ const RIDERS: usize = 16;
 /// Which rank of a record is whose: by rider the rank held and the rank committed, 0 for none.
 #[derive(Clone, Copy)]
 pub struct Desk {
-    pub k: usize,
-    pub held: [usize; RIDERS],
-    pub committed: [usize; RIDERS],
+    pub k: u8,
+    pub held: [u8; RIDERS],
+    pub committed: [u8; RIDERS],
 }
 
+/// The calls are not built into their callers, as those of the library are not.
 impl Desk {
     pub fn fresh() -> Desk {
         Desk { k: 0, held: [0; RIDERS], committed: [0; RIDERS] }
     }
 
+    #[inline(never)]
     pub fn open(&mut self, record: &[u8]) -> u32 {
         let (no, _, k) = accept(record);
         if no == 0 {
-            *self = Desk { k, ..Desk::fresh() };
+            *self = Desk { k: k as u8, ..Desk::fresh() };
         }
         no
     }
 
+    #[inline(never)]
     pub fn ask(&mut self, rider: usize, rank: usize) -> u32 {
         if rider >= RIDERS {
             return 22;
         }
-        if rank == 0 || rank > self.k {
+        if rank == 0 || rank > self.k.into() {
             return 23;
         }
+        let rank = rank as u8;
         let has = |i: usize| self.held[i] == rank || self.committed[i] == rank;
         if self.committed[rider] != 0 || (0..RIDERS).any(|i| i != rider && has(i)) {
             return 24;
@@ -515,6 +519,7 @@ impl Desk {
         0
     }
 
+    #[inline(never)]
     pub fn commit(&mut self, rider: usize) -> u32 {
         if rider >= RIDERS {
             return 22;
@@ -526,6 +531,7 @@ impl Desk {
         0
     }
 
+    #[inline(never)]
     pub fn cancel(&mut self, rider: usize) -> u32 {
         if rider >= RIDERS {
             return 22;
@@ -534,7 +540,8 @@ impl Desk {
         0
     }
 
+    #[inline(never)]
     pub fn held(&self, rider: usize) -> usize {
-        self.held.get(rider).map_or(0, |&rank| rank)
+        self.held.get(rider).map_or(0, |&rank| rank.into())
     }
 }

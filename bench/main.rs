@@ -217,9 +217,9 @@ fn assert_equal_desks(rng: &mut Random, record: &[u8]) -> usize {
         assert_eq!(number(got, ()).0, want, "call {i} at a desk");
         for rider in 0..17 {
             assert_eq!(a.held(rider).unwrap_or(0), b.held(rider), "held after call {i}");
-            assert_eq!(a.committed(rider).unwrap_or(0), b.committed.get(rider).map_or(0, |&rank| rank), "committed after call {i}");
+            assert_eq!(a.committed(rider).unwrap_or(0), b.committed.get(rider).map_or(0, |&rank| rank.into()), "committed after call {i}");
         }
-        assert_eq!(a.count(), b.k);
+        assert_eq!(a.count(), b.k.into());
     }
     CALLS
 }

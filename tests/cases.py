@@ -519,7 +519,7 @@ def desk_rules():
 def desk_limits():
     for rider in (0, 15) + NO_RIDERS:
         yield 'rider %d' % rider, joined(ask(rider, 1), cancel(rider), ask(rider, 2), commit(rider), commit(rider))
-    for rank in (0, 1, 2, 3, 4, 2 ** 32 + 1, 2 ** 63, 2 ** 64 - 1):
+    for rank in (0, 1, 2, 3, 4, 255, 256, 257, 2 ** 32 + 1, 2 ** 63, 2 ** 64 - 1):
         yield 'rank %d of 3' % rank, joined(ask(2, rank), commit(2))
 
 
@@ -548,9 +548,9 @@ def filled_desks():
     none = [0] * 16
     first = [1] + none[1:]
     both = [(2, [1, 1] + none[2:], none), (2, first, [0, 1] + none[2:]), (2, first, first), (2, [9] + none[1:], none), (0, first, none),
-            (2 ** 64 - 1, none, none), (2 ** 64 - 1, [2 ** 64 - 1] * 16, [2 ** 63] * 16), (3, list(range(16)), list(range(16, 0, -1)))]
+            (255, none, none), (255, [255] * 16, [128] * 16), (65, [65] + none[1:], none), (3, list(range(16)), list(range(16, 0, -1)))]
     for n, (k, held, committed) in enumerate(both):
-        calls = joined(ask(0, 1), ask(1, 1), ask(2, 2), ask(3, 2 ** 64 - 1), commit(0), cancel(1), commit(0), commit(2), commit(15), ask(1, 1), ask(16, 1))
+        calls = joined(ask(0, 1), ask(1, 1), ask(2, 2), ask(3, 255), ask(4, 256), ask(4, 257), commit(0), cancel(1), commit(0), commit(2), commit(15), ask(1, 1), ask(16, 1))
         yield 'a desk that no call made, %d' % n, fill(k, held, committed) + calls + opened(2) + ask(1, 1)
 
 

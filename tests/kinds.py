@@ -319,8 +319,8 @@ def record_input(rng):
 
 def any_ranks(rng):
     """Ranks that no call put there: small ones often, so that some are there twice."""
-    most = rng.choice([3, 20, 2 ** 64])
-    return [rng.choice([0, 0, rng.randrange(most), 2 ** 64 - 1]) for _ in range(desk.RIDERS)]
+    most = rng.choice([3, 20, 256])
+    return [rng.choice([0, 0, rng.randrange(most), 255]) for _ in range(desk.RIDERS)]
 
 
 def first_of_desk(rng):
@@ -329,8 +329,8 @@ def first_of_desk(rng):
     if start == 0:
         return [], 3
     if start < 3:
-        k = rng.choice([0, 1, 5, 64, 2 ** 64 - 1])
-        return fill(k, any_ranks(rng), any_ranks(rng)), min(k, 64)
+        k = rng.choice([0, 1, 5, 64, 65, 255])
+        return fill(k, any_ranks(rng), any_ranks(rng)), k
     words, most = some_plans(rng)
     return opening(ref.record(words, most)), min(most, len(ref.in_order(tuple(words))))
 
@@ -339,7 +339,7 @@ def desk_call(rng, k):
     rider = rng.choice([2 ** 32 + 3, 2 ** 63, 2 ** 64 - 1]) if rng.random() < 0.03 else rng.randrange(18)
     kind = rng.random()
     if kind < 0.6:
-        return ask(rider, rng.choice([0, k + 1, 2 ** 32 + 1, 2 ** 64 - 1]) if rng.random() < 0.1 else rng.randint(1, max(1, k)))
+        return ask(rider, rng.choice([0, k + 1, 256, 257, 2 ** 32 + 1, 2 ** 64 - 1]) if rng.random() < 0.1 else rng.randint(1, max(1, k)))
     return commit(rider) if kind < 0.8 else cancel(rider)
 
 

@@ -93,7 +93,8 @@ def cancel(rider):
 
 
 def fill(k, held, committed):
-    return numbers('fill', k, *held, *committed)
+    content = bytes([k, *held, *committed])
+    return [put(content, TEXT), Command('fill', TEXT, TEXT + len(content))]
 
 
 # ---- the input
@@ -126,10 +127,6 @@ def row(*figures):
 
 def number_at(part, at):
     return int.from_bytes(part[at:at + 8], 'little') if len(part) >= at + 8 else 0
-
-
-def ranks_row(ranks):
-    return row(*[min(rank, 2 ** 63 - 1) for rank in ranks])
 
 
 def bytes_row(content):
@@ -202,8 +199,8 @@ class Machine:
 
     def at_desk(self, no, part):
         rider = number_at(part, 0)
-        figures = ranks_row([no, self.desk.held_by(rider), self.desk.committed_by(rider)])
-        return figures + ranks_row([self.desk.k]) + ranks_row(self.desk.held) + ranks_row(self.desk.committed)
+        figures = row(no, self.desk.held_by(rider), self.desk.committed_by(rider))
+        return figures + row(self.desk.k) + row(*self.desk.held) + row(*self.desk.committed)
 
     def open(self, c, part):
         no, _, k = ref.accept(part)
@@ -219,8 +216,7 @@ class Machine:
         return self.at_desk(self.desk.cancel(number_at(part, 0)), part)
 
     def fill(self, c, part):
-        numbers = [number_at(part, 8 * i) for i in range(1 + 2 * desk.RIDERS)]
-        self.desk = desk.Desk(numbers[0], numbers[1:1 + desk.RIDERS], numbers[1 + desk.RIDERS:])
+        self.desk = desk.Desk(part[0], part[1:1 + desk.RIDERS], part[1 + desk.RIDERS:])
 
 
 def transcript(case):

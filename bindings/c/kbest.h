@@ -136,9 +136,9 @@ void kbest_show(const uint8_t *record, size_t bytes, size_t j, size_t *offset, s
  * commit, whatever is done for others, until they cancel, commit or are granted another, or the desk is opened anew.
  * For a desk that was made or changed in another way a call that does not open it still ends with a result or a number; no more is promised. */
 typedef struct kbest_desk {
-    size_t k;
-    size_t held[KBEST_RIDERS];
-    size_t committed[KBEST_RIDERS];
+    uint8_t k;
+    uint8_t held[KBEST_RIDERS];
+    uint8_t committed[KBEST_RIDERS];
 } kbest_desk;
 
 /* A desk that no record was opened at: every rank is refused with 23. */

@@ -82,7 +82,7 @@ int main(void) {
         fprintf(stderr, "refused %u: %s\n", no, kbest_question(no));
         return 1;
     }
-    printf("opened: %zu plans\n", desk.k);
+    printf("opened: %d plans\n", desk.k);
     reserve(&desk);
     print_riders(&desk);
     return 0;

@@ -65,7 +65,7 @@ class Refused(Exception):
 class _Desk(ctypes.Structure):
     """A desk as it lies in memory: by rider the rank held and the rank committed, 0 for none."""
 
-    _fields_ = [('k', ctypes.c_size_t), ('held', ctypes.c_size_t * RIDERS), ('committed', ctypes.c_size_t * RIDERS)]
+    _fields_ = [('k', ctypes.c_uint8), ('held', ctypes.c_uint8 * RIDERS), ('committed', ctypes.c_uint8 * RIDERS)]
 
 
 @functools.cache

@@ -21,7 +21,7 @@ from test_random import answer, same
 SEED = 'desk'
 RECORDS, SEQUENCES, CALLS = 400, 360, 72
 NO_RIDERS = [18, 255, 2 ** 32 + 3, 2 ** 63, 2 ** 64 - 1, 2 ** 64, 2 ** 64 + 3, -1, -2 ** 64 + 5]
-NO_RANKS = [0, 65, 2 ** 32 + 1, 2 ** 64 - 1, 2 ** 64, 2 ** 64 + 1, -1, -2 ** 64 + 1]
+NO_RANKS = [0, 65, 255, 256, 257, 2 ** 32 + 1, 2 ** 64 - 1, 2 ** 64, 2 ** 64 + 1, -1, -2 ** 64 + 1]
 LOOKED_UP = [*range(18), *NO_RIDERS]
 
 
@@ -67,7 +67,7 @@ class Compared:
         kind = self.rng.random()
         if kind < 0.2:
             return self.rng.choice(self.rules.held + self.rules.committed)
-        return self.rng.choice(NO_RANKS) if kind < 0.25 else self.rng.randint(0, min(self.rules.k, self.rng.choice([6, 18, 2 ** 64 - 1])) + 1)
+        return self.rng.choice(NO_RANKS) if kind < 0.25 else self.rng.randint(0, min(self.rules.k, self.rng.choice([6, 18, 255])) + 1)
 
     def ask(self):
         rider, rank = self.rider(), self.rank()
@@ -98,9 +98,9 @@ class Compared:
 
     def fill(self):
         """Any numbers, with small ones often, so that a rank is given twice or is not listed."""
-        most = self.rng.choice([3, 20, 2 ** 64])
-        held, committed = ([self.rng.choice([0, 0, self.rng.randrange(most), 2 ** 64 - 1]) for _ in range(kbest.RIDERS)] for _ in range(2))
-        k = self.rng.choice([0, 1, 5, 64, 2 ** 64 - 1, self.rng.randrange(most)])
+        most = self.rng.choice([3, 20, 256])
+        held, committed = ([self.rng.choice([0, 0, self.rng.randrange(most), 255]) for _ in range(kbest.RIDERS)] for _ in range(2))
+        k = self.rng.choice([0, 1, 5, 64, 255, self.rng.randrange(most)])
         self.done.append('fill%r' % ((k, held, committed),))
         self.desk._desk.k, self.desk._desk.held[:], self.desk._desk.committed[:] = k, held, committed
         self.rules, self.filled, self.granted = desk.Desk(k, held, committed), True, {}

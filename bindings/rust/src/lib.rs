@@ -125,9 +125,9 @@ pub struct Accepted {
 #[repr(C)]
 #[derive(Clone, Copy, Debug, PartialEq, Eq)]
 pub struct Desk {
-    k: usize,
-    held: [usize; RIDERS],
-    committed: [usize; RIDERS],
+    k: u8,
+    held: [u8; RIDERS],
+    committed: [u8; RIDERS],
 }
 
 fn answer<T>(number: u32, figure: T) -> Result<T, Refused> {
@@ -241,7 +241,7 @@ impl Desk {
 
     /// k: how many plans the record lists, 0 before one is opened.
     pub fn count(&self) -> usize {
-        self.k
+        self.k.into()
     }
 
     /// The rank that a rider holds; rank 1 is the plan that `show` has as 0.

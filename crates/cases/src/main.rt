@@ -17,7 +17,7 @@
 //
 //  o  opens the desk with the part          y  commits for the rider
 //  h  asks for the rank for the rider       n  cancels for the rider
-//  f  fills the desk: k, then the ranks held and the ranks committed
+//  f  fills the desk: bytes of k, of the ranks held and of the ranks committed
 //
 // A call prints its letter, then its number and two figures, 0 where it has none, and all that the lent slices hold after it (for w the z costs too);
 // s and b print the bytes that they show. The figures of a call at the desk are the ranks that the rider holds and has committed to; k and all ranks
@@ -187,22 +187,29 @@ fn number_at(bytes: &[u8], at: usize) -> usize
     (bytes_io::read4(bytes, at) + 4294967296 * bytes_io::read4(bytes, at + 4)) as usize
 }
 
-fn ranks_at(part: &[u8], from: usize) -> [usize; 16]
-    requires { ⌜ from < 2048 ⌝ }
+fn ranks_at(part: &[u8], from: usize) -> [u8; 16]
+    requires { ⌜ from < 4096 ⌝ }
 {
-    let mut ranks = [0usize; 16];
+    let mut ranks = [0u8; 16];
+    if part.len() < from + 16 {
+        return ranks;
+    }
     let mut i: usize = 0;
     while i < 16 {
-        ranks[i] = number_at(part, from + 8 * i);
+        ranks[i] = part[from + i];
         i = i + 1;
     }
     ranks
 }
 
-fn print_ranks(ranks: &[usize; 16]) {
+fn print_rank(rank: u8) {
+    print_signed(rank as i64);
+}
+
+fn print_ranks(ranks: &[u8; 16]) {
     let mut i: usize = 0;
     while i < 16 {
-        print_signed(figure(ranks[i]));
+        print_rank(ranks[i]);
         i = i + 1;
     }
     io::write_all(1, b"\n");
@@ -224,11 +231,11 @@ fn turn(h: Head, desk: Desk, part: &[u8]) -> Answer {
 
 // Gives the desk afterwards.
 fn serve(h: Head, desk: Desk, part: &[u8]) -> Desk {
-    if h.kind == b'f' {
+    if h.kind == b'f' && part.len() > 0 {
         return Desk {
-            k: number_at(part, 0),
-            held: ranks_at(part, 8),
-            committed: ranks_at(part, 136),
+            k: part[0],
+            held: ranks_at(part, 1),
+            committed: ranks_at(part, 17),
         };
     }
     let a = turn(h, desk, part);
@@ -242,7 +249,7 @@ fn serve(h: Head, desk: Desk, part: &[u8]) -> Desk {
             figure(next.committed_by(rider)),
         ],
     );
-    print_row(&[figure(next.k)]);
+    print_row(&[next.k as i64]);
     print_ranks(&next.held);
     print_ranks(&next.committed);
     next

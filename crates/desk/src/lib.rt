@@ -9,7 +9,7 @@ pub fn opened(desk: Desk, record: &[u8]) -> Answer
     ensures { λ a. ⌜ a ≡ opening desk (now («record» .entry)) ⌝ }
 {
     let a = accept::accept(record);
-    desk.opening(a.no, a.k)
+    desk.opening(a.no, a.k as u8)
 }
 
 // Holds a rank for a rider, whose earlier hold is dropped.

@@ -3,7 +3,7 @@
 use mathlib.Core.Path.{_≡_, refl, _∙_}
 use mathlib.Core.Bool.{Bool, true, _&&_}
 use mathlib.Core.List.{List, []}
-use Prim.Native.Nat.{ℕ, _+_, _*_, _≤_}
+use Prim.Native.Nat.{ℕ, zero, suc, _+_, _*_, _≤_}
 use native.Mathlib.Omega.{arith}
 use borrow.Author.Tests.{leb-true, le-leb, eqb-true, eq-eqb}
 use lib.Dec.{leb, eqb}
@@ -14,6 +14,7 @@ use Rattle.model.specs.Questions.{firstNo}
 use Rattle.model.specs.Order.{ranking}
 use Rattle.model.specs.Record.{listBytes, carriedLength, carriedK, carriedCount, carriedBook, listStart}
 use Rattle.model.specs.Record.{headQuestions, tailQuestions, askedNumber, acceptNumber}
+use Rattle.model.specs.Calls.{ifAccepted, acceptCount}
 use Rattle.questions.specs.Ranges.{and-true}
 use Rattle.questions.specs.FirstNo.{passed, passes, none, then-zero}
 use Rattle.asked.specs.Asked.{Asked, asked-says, asked-passed}
@@ -127,3 +128,12 @@ module _ (bs : List ℕ) where
   unfolding acceptNumber
   accept-passed a =
       rw (head-passed (a .head), asked-passed (carriedBook bs) (carriedK bs) (a .asked), tail-passed (a .sized) (a .ranked))
+
+  -- no accepted record lists more than 64 policies
+  pub listed-most : acceptCount bs ≤ 64
+  unfolding acceptCount
+  listed-most = go (acceptNumber bs) refl
+    where
+      go : (n : ℕ) → acceptNumber bs ≡ n → ifAccepted n (carriedCount bs) 0 ≤ 64
+      go zero e = let a = accept-says e in omega (arith, a .sized .most, a .asked .high)
+      go (suc n) e = omega arith

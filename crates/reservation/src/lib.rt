@@ -2,6 +2,7 @@
 // and gives the next.
 ghost use mathlib.Core.Path.{_≡_};
 ghost use mathlib.Core.Bool.{not, _||_};
+ghost use Prim.Native.Nat.{_%_};
 ghost use lib.Dec.{eqb};
 ghost use lib.ListN.{replicate};
 ghost use Rattle.model.specs.Questions.{firstNo};
@@ -13,12 +14,12 @@ const RIDERS: usize = 16;
 // What is reserved (document 02: the desk): which rank of the record is whose.
 #[repr(C)]
 pub struct Desk {
-    // how many plans the record lists; 0 before a record is opened
-    pub k: usize,
+    // how many plans the record lists, at most 64; 0 before a record is opened
+    pub k: u8,
     // by rider: the rank held, 0 none
-    pub held: [usize; 16],
+    pub held: [u8; 16],
     // by rider: the rank committed, 0 none
-    pub committed: [usize; 16],
+    pub committed: [u8; 16],
 }
 
 // The number of a call and the desk afterwards.
@@ -28,14 +29,14 @@ pub struct Answer {
 }
 
 // No rank for any rider.
-fn no_ranks() -> [usize; 16]
+fn no_ranks() -> [u8; 16]
     ensures { λ r. ⌜ r ≡ replicate 16 0 ⌝ }
 {
     [0; 16]
 }
 
 // A desk for k plans, with nothing held or committed.
-fn open_for(k: usize) -> Desk
+fn open_for(k: u8) -> Desk
     ensures { λ r. ⌜ r ≡ openFor k ⌝ }
 {
     Desk {
@@ -46,16 +47,23 @@ fn open_for(k: usize) -> Desk
 }
 
 // Does a rider with these two ranks leave the rank to the asker? The asker does.
-fn leaves(held: usize, committed: usize, rank: usize, asker: bool) -> bool
+fn leaves(held: u8, committed: u8, rank: usize, asker: bool) -> bool
     ensures { λ r. ⌜ r ≡ (not (eqb held rank || eqb committed rank) || asker) ⌝ }
 {
-    if held == rank {
+    if held as usize == rank {
         return asker;
     }
-    if committed == rank {
+    if committed as usize == rank {
         return asker;
     }
     true
+}
+
+// A rank that is listed, as a byte: k is one, so no such rank is cut.
+fn low_byte(rank: usize) -> u8
+    ensures { λ r. ⌜ r ≡ rank % 256 ⌝ }
+{
+    (rank % 256) as u8
 }
 
 // The number that each call of a rider asks for first; of cancelling it is the whole.
@@ -77,7 +85,11 @@ impl Desk {
     pub fn held_by(self, rider: usize) -> usize
         ensures { λ r. ⌜ r ≡ heldBy self rider ⌝ }
     {
-        if rider < RIDERS { self.held[rider] } else { 0 }
+        if rider < RIDERS {
+            self.held[rider] as usize
+        } else {
+            0
+        }
     }
 
     // The rank that a rider has committed to, 0 none.
@@ -85,7 +97,7 @@ impl Desk {
         ensures { λ r. ⌜ r ≡ committedBy self rider ⌝ }
     {
         if rider < RIDERS {
-            self.committed[rider]
+            self.committed[rider] as usize
         } else {
             0
         }
@@ -116,7 +128,7 @@ impl Desk {
         if rank < 1 {
             return 23;
         }
-        if rank > self.k {
+        if rank > self.k as usize {
             return 23;
         }
         if self.committed_by(rider) != 0 {
@@ -137,7 +149,7 @@ impl Desk {
     }
 
     // The rider holds the rank, and no other; 0 drops the hold. A number that is no rider's changes nothing.
-    fn holding(mut self, rider: usize, rank: usize) -> Desk
+    fn holding(mut self, rider: usize, rank: u8) -> Desk
         ensures { λ r. ⌜ r ≡ holding self rider rank ⌝ }
     {
         if rider < RIDERS {
@@ -152,7 +164,7 @@ impl Desk {
     {
         let mut next = self.holding(rider, 0);
         if rider < RIDERS {
-            next.committed[rider] = self.held_by(rider);
+            next.committed[rider] = self.held[rider];
         }
         next
     }
@@ -172,7 +184,7 @@ impl Desk {
         ensures { λ a. ⌜ a ≡ asking self rider rank ⌝ }
     {
         let no = self.ask_number(rider, rank);
-        self.answer(no, self.holding(rider, rank))
+        self.answer(no, self.holding(rider, low_byte(rank)))
     }
 
     // The rank held becomes the rider's.
@@ -192,7 +204,7 @@ impl Desk {
     }
 
     // Opening, of the number and the k that accepting the record gives.
-    pub fn opening(self, no: u32, k: usize) -> Answer
+    pub fn opening(self, no: u32, k: u8) -> Answer
         ensures { λ a. ⌜ a ≡ answer no (openFor k) self ⌝ }
     {
         self.answer(no, open_for(k))

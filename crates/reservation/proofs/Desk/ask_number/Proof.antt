@@ -21,6 +21,9 @@ is c = cancel-says _ (sym (c .before .rider-number .ensures) ∙ c .if1 .left)
 returns-2 : tie.Need-returns-2
 returns-2 c = let s = c .before .before .before .args in sym (no-rank (s .rider) (is (c .before)) (s .self) (s .rank) (omega arith))
 
+cast-if3 : tie.Need-cast-if3
+cast-if3 c = search needs
+
 returns-3 : tie.Need-returns-3
 returns-3 c =
     let s = c .before .before .before .before .before .args in sym (beyond-list (s .rider) (is (c .before .before .before)) (s .self) (s .rank) (omega arith))
@@ -52,4 +55,4 @@ returns-6 c =
 
 pub ask-number-spec : {M : Type 1} → statement M
 ask-number-spec =
-    tie.close (tie.spec rider-number-requires returns returns-2 returns-3 committed-by-requires returns-4 is-free-requires returns-5 returns-6)
+    tie.close (tie.spec rider-number-requires returns returns-2 cast-if3 returns-3 committed-by-requires returns-4 is-free-requires returns-5 returns-6)

@@ -7,11 +7,11 @@ use lib.ListN.{length, List·getD-eq-default}
 use Rattle.reservation.proofs.Desk.held_by.Statement.{statement}
 use Rattle.reservation.proofs.Desk.held_by.Tie as tie
 
-mul-result : tie.Need-mul-result
-mul-result c = search needs
-
 element-copy-out-result : tie.Need-element-copy-out-result
 element-copy-out-result c = search needs
+
+cast-result : tie.Need-cast-result
+cast-result c = search needs
 
 returns : tie.Need-returns
 returns c = search needs
@@ -22,4 +22,4 @@ returns-2 c =
     let long : length (d .held) ≡ 16 = search needs in sym (List·getD-eq-default (d .held) 0 (omega (arith, long)))
 
 pub held-by-spec : {M : Type 1} → statement M
-held-by-spec = tie.close (tie.spec mul-result element-copy-out-result returns returns-2)
+held-by-spec = tie.close (tie.spec element-copy-out-result cast-result returns returns-2)

@@ -10,9 +10,6 @@ use Rattle.reservation.specs.declared.Desk.{Desk}
 use Rattle.reservation.proofs.Desk.holding.Statement.{statement}
 use Rattle.reservation.proofs.Desk.holding.Tie as tie
 
-mul-self : tie.Need-mul-self
-mul-self c = search needs
-
 element-write-self : tie.Need-element-write-self
 element-write-self c = search needs
 
@@ -27,4 +24,4 @@ returns-2 c =
     ap (λ (xs : List ℕ). record { k = d .k; held = xs; committed = d .committed }) (sym (set-out (d .held) (s .rider) (s .rank) (omega (arith, long))))
 
 pub holding-spec : {M : Type 1} → statement M
-holding-spec = tie.close (tie.spec mul-self element-write-self returns returns-2)
+holding-spec = tie.close (tie.spec element-write-self returns returns-2)

@@ -21,14 +21,8 @@ abbrev μ-loop : tie.MeasureT-loop
 loop-holds : tie.Need-loop-holds Inv-loop μ-loop
 loop-holds c = (omega arith, refl)
 
-mul-leaves : tie.Need-mul-leaves Inv-loop μ-loop
-mul-leaves c = search needs
-
 element-copy-out-leaves : tie.Need-element-copy-out-leaves Inv-loop μ-loop
 element-copy-out-leaves c = search needs
-
-mul-leaves-2 : tie.Need-mul-leaves-2 Inv-loop μ-loop
-mul-leaves-2 c = search needs
 
 element-copy-out-leaves-2 : tie.Need-element-copy-out-leaves-2 Inv-loop μ-loop
 element-copy-out-leaves-2 c = search needs
@@ -74,9 +68,7 @@ is-free-spec =
     Inv-loop
     μ-loop
     loop-holds
-    mul-leaves
     element-copy-out-leaves
-    mul-leaves-2
     element-copy-out-leaves-2
     leaves-requires
     returns
