@@ -1,4 +1,5 @@
 mod Lent
+mod Method
 mod Rider
 mod Ranked
 mod Looked

@@ -6,7 +6,6 @@ use native.Mathlib.Omega.{arith}
 use borrow.Author.Needs.{needs}
 use lib.ListN.{length}
 use lib.Seq.{set-out}
-use Rattle.reservation.specs.declared.Desk.{Desk}
 use Rattle.reservation.proofs.Desk.holding.Statement.{statement}
 use Rattle.reservation.proofs.Desk.holding.Tie as tie
 

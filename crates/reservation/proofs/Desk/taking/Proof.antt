@@ -6,7 +6,6 @@ use native.Mathlib.Omega.{arith}
 use borrow.Author.Needs.{needs}
 use lib.ListN.{length, set}
 use lib.Seq.{set-out}
-use Rattle.reservation.specs.declared.Desk.{Desk}
 use Rattle.reservation.specs.Reservations.{heldBy}
 use Rattle.reservation.proofs.Desk.taking.Statement.{statement}
 use Rattle.reservation.proofs.Desk.taking.Tie as tie
