@@ -29,7 +29,15 @@ use Rattle.reservation.proofs.Desk.Laws as D′
 use Rattle.desk.proofs.Lent.{desk}
 
 abbrev pub valued : RattleType → Ended
-valued Res = record { signature = record { lifetimes = 0; outlives = []; params = plain (λ _. D.the-row) ∷ plain (λ _. usize) ∷ []; result = plain (λ _. Res) }; kept = (yes, (yes, tt)) }
+valued Res = record {
+  signature = record {
+    lifetimes = 0;
+    outlives = [];
+    params = plain (λ _. D.the-row) ∷ plain (λ _. usize) ∷ [];
+    result = plain (λ _. Res);
+  };
+  kept = (yes, (yes, tt));
+}
 
 module _ (Res : RattleType) (f : Desk → ℕ → Res .Denot) {M : Type 1} (𝓤 : URA M) (H : Heap 𝓤) (A : Atoms 𝓤) where
   abbrev pub gives : Clauses 𝓤 (valued Res)

@@ -26,7 +26,8 @@ unfolding opening
 opens-with d bytes e = granted-next d (opens bytes) e
 
 -- so whatever desk it was, the laws below hold from there on
-pub from-any-desk : (d : Desk) (bytes : List ℕ) → acceptNumber bytes ≡ 0 → (cs : List Call) → after d (opens bytes ∷ cs) ≡ after (openFor (acceptCount bytes)) cs
+pub from-any-desk : (d : Desk) (bytes : List ℕ) → acceptNumber bytes ≡ 0 → (cs : List Call)
+    → after d (opens bytes ∷ cs) ≡ after (openFor (acceptCount bytes)) cs
 from-any-desk d bytes e cs = ap (λ (x : Desk). after x cs) (opens-with d bytes e)
 
 -- a rank that no other rider has is free
@@ -78,7 +79,13 @@ module _ (k : ℕ) (cs : List Call) where
   unfolding asking
   granted-only i rank g =
       let m = ask-says d i rank g in
-      record { is = m .is; first = m .first; last = m .last; with-none = with-no-other orderly i rank (m .first) (m .free-of); uncommitted = m .uncommitted }
+      record {
+        is = m .is;
+        first = m .first;
+        last = m .last;
+        with-none = with-no-other orderly i rank (m .first) (m .free-of);
+        uncommitted = m .uncommitted;
+      }
 
   -- who holds a rank has not committed
   holder : (i : ℕ) → 1 ≤ heldBy d i → committedBy d i ≡ 0
@@ -129,15 +136,18 @@ module _ (k : ℕ) (cs : List Call) where
 
     pub theirs : committedBy (answerTo e (commits i) .desk) i ≡ rank
     theirs =
-        ap (λ (x : Desk). committedBy x i) (granted-next e (commits i) can-commit) ∙ takes still-orderly i (granted-only i rank g .is) i refl ∙ still-held
+        ap (λ (x : Desk). committedBy x i) (granted-next e (commits i) can-commit) ∙ takes still-orderly i (granted-only i rank g .is) i refl
+        ∙ still-held
 
   -- a commitment never goes, "until the desk is opened anew"
-  pub commitment-stays : (i : ℕ) → 1 ≤ committedBy d i → (more : List Call) → NoneGranted isOpening d more → committedBy (after d more) i ≡ committedBy d i
+  pub commitment-stays : (i : ℕ) → 1 ≤ committedBy d i → (more : List Call) → NoneGranted isOpening d more
+      → committedBy (after d more) i ≡ committedBy d i
   unfolding committing
   commitment-stays i h more none =
       every-other-call (λ (x : Desk). Orderly x × (committedBy x i ≡ committedBy d i)) isOpening keeps d more none (orderly, refl) .1
     where
-      take : (x : Desk) (j : ℕ) → Orderly x → committedBy x i ≡ committedBy d i → Granted x (commits j) → Dec (i ≡ j) → committedBy (taking x j) i ≡ committedBy d i
+      take : (x : Desk) (j : ℕ) → Orderly x → committedBy x i ≡ committedBy d i → Granted x (commits j) → Dec (i ≡ j)
+          → committedBy (taking x j) i ≡ committedBy d i
       take x j o p g (yes q) = absurd (omega (arith, commit-says x j g .1, o .either i (omega (arith, p)), ap (heldBy x) q))
       take x j o p g (no ne) = others-take x j i ne ∙ p
 
@@ -152,7 +162,8 @@ module _ (k : ℕ) (cs : List Call) where
   module _ (i j : ℕ) (h : 1 ≤ heldBy d i) (is : j < riders) (uncommitted : committedBy d j ≡ 0) where
     freed : (r : ℕ) → (heldBy d i ≡ r → ⊥) → firstNo (askQuestions (holding d i r) (heldBy d i)) j ≡ 0
     freed r ne =
-        may-ask j is (holding d i r) (heldBy d i) h (listed i (heldBy d i) h (inl refl) .1) (free-when (holding d i r) j (heldBy d i) (λ a _. gone a (ℕ-discrete a i))) uncommitted
+        may-ask j is (holding d i r) (heldBy d i) h (listed i (heldBy d i) h (inl refl) .1)
+        (free-when (holding d i r) j (heldBy d i) (λ a _. gone a (ℕ-discrete a i))) uncommitted
       where
         gone : (a : ℕ) → Dec (a ≡ i) → With (holding d i r) a (heldBy d i) → ⊥
         gone a (yes q) (inl e) = ne (sym e ∙ holds orderly i (listed i (heldBy d i) h (inl refl) .0) r a q)
@@ -166,7 +177,8 @@ module _ (k : ℕ) (cs : List Call) where
         ap (λ (x : Desk). firstNo (askQuestions x (heldBy d i)) j) (granted-next d (cancels i) (may-cancel i (listed i (heldBy d i) h (inl refl) .0)))
         ∙ freed 0 (λ e. omega arith)
 
-    pub free-after-ask : (rank : ℕ) → (heldBy d i ≡ rank → ⊥) → Granted d (asks i rank) → Granted (answerTo d (asks i rank) .desk) (asks j (heldBy d i))
+    pub free-after-ask : (rank : ℕ) → (heldBy d i ≡ rank → ⊥) → Granted d (asks i rank)
+        → Granted (answerTo d (asks i rank) .desk) (asks j (heldBy d i))
     unfolding asking
     free-after-ask rank ne g = ap (λ (x : Desk). firstNo (askQuestions x (heldBy d i)) j) (granted-next d (asks i rank) g) ∙ freed rank ne
 
@@ -185,7 +197,8 @@ k-stays d cs none = every-other-call (λ (x : Desk). x .k ≡ d .k) isOpening ke
     keeps x (opens bytes) n p g = absurd (n tt)
 
 -- at a desk that was never opened nothing is listed
-pub never-opened : (cs : List Call) → NoneGranted isOpening (openFor 0) cs → (i rank : ℕ) → i < riders → answerTo (after (openFor 0) cs) (asks i rank) .no ≡ 23
+pub never-opened : (cs : List Call) → NoneGranted isOpening (openFor 0) cs → (i rank : ℕ) → i < riders
+    → answerTo (after (openFor 0) cs) (asks i rank) .no ≡ 23
 unfolding asking
 never-opened cs none i rank is = go (decLt rank 1)
   where

@@ -82,7 +82,8 @@ module _ {d : Desk} (o : Orderly d) where
     -- ---- each granted call
 
     after-cancel : Orderly (holding d i 0)
-    after-cancel = fewer (holding d i 0) (length-set (d .held) i 0 ∙ o .held-long) (o .committed-long) refl (λ j rank. there j rank (ℕ-discrete j i)) (λ j. one j (ℕ-discrete j i))
+    after-cancel = fewer (holding d i 0) (length-set (d .held) i 0 ∙ o .held-long) (o .committed-long) refl (λ j rank. there j rank (ℕ-discrete j i))
+        (λ j. one j (ℕ-discrete j i))
       where
         there : (j rank : ℕ) → Dec (j ≡ i) → 1 ≤ rank → With (holding d i 0) j rank → With d j rank
         there j rank (yes q) h (inl e) = absurd (omega (arith, holds 0 j q))

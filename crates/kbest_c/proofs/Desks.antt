@@ -72,7 +72,8 @@ module _ (g : Name) {M : Type 1} (𝓤 : URA M) (H : Heap 𝓤) (A : Atoms 𝓤)
   ranked s known y =
       spelled 𝓤 H A W (with-rank .params) w32 s (WpFn 𝓤 H (𝓣 .C) (𝓣 .Λ) (rank-code g)) y (ptr-vals, (uint-vals w64, (uint-vals w64, tt)))
       (mut-tells (named 0) (y .0 .0 .0) D.the-row, (uint-tells w64, (uint-tells w64, tt))) (λ are.
-      three-walk 𝓤 H A W (𝓣 .C) (𝓣 .Λ) (fmOf 𝓤 H (W .laws) 𝓣) g 1 (tyInt w32) σ D′.mir (tyInt w64) _ _ _ _ _ (tyInt w64) _ (tt, record { fits = are .1 .0 .1 })
+      three-walk 𝓤 H A W (𝓣 .C) (𝓣 .Λ) (fmOf 𝓤 H (W .laws) 𝓣) g 1 (tyInt w32) σ D′.mir (tyInt w64) _ _ _ _ _ (tyInt w64) _
+      (tt, record { fits = are .1 .0 .1 })
       (tt, record { fits = are .1 .1 .0 .1 }) (number 𝓤 H A W (with-rank .params) w32 s y) (known _))
 
   pub filed : (s : Spec 𝓤 with-record) → Keeps with-record s (record-code g)
@@ -80,7 +81,8 @@ module _ (g : Name) {M : Type 1} (𝓤 : URA M) (H : Heap 𝓤) (A : Atoms 𝓤)
       spelled 𝓤 H A W (with-record .params) w32 s (WpFn 𝓤 H (𝓣 .C) (𝓣 .Λ) (record-code g)) y (ptr-vals, (slice-vals, tt))
       (mut-tells (named 0) (y .0 .0 .0) D.the-row, (shr-slice-tells (named 1) (y .0 .0 .1 .0) u8, tt)) (λ are.
       two-walk 𝓤 H A W (𝓣 .C) (𝓣 .Λ) (fmOf 𝓤 H (W .laws) 𝓣) g 2 (tyInt w32) σ D′.mir (sliceTy (tyRef (named 1) imm (tyInt w8))) _ _ _ _ _
-      (shr-slice-lawful 𝓤 H A W (named 1) (y .0 .0 .1 .0) u8 .typed (y .0 .3 .1 .0) _ (are .1 .0) .0) (number 𝓤 H A W (with-record .params) w32 s y) (known _))
+      (shr-slice-lawful 𝓤 H A W (named 1) (y .0 .0 .1 .0) u8 .typed (y .0 .3 .1 .0) _ (are .1 .0) .0) (number 𝓤 H A W (with-record .params) w32 s y)
+      (known _))
 
   pub looked : (s : Spec 𝓤 for-look) → Keeps for-look s (look-code g)
   looked s known y =

@@ -26,7 +26,8 @@ cast-if3 c = search needs
 
 returns-3 : tie.Need-returns-3
 returns-3 c =
-    let s = c .before .before .before .before .before .args in sym (beyond-list (s .rider) (is (c .before .before .before)) (s .self) (s .rank) (omega arith))
+    let s = c .before .before .before .before .before .args in
+    sym (beyond-list (s .rider) (is (c .before .before .before)) (s .self) (s .rank) (omega arith))
 
 committed-by-requires : tie.Need-committed-by-requires
 committed-by-requires c κs = search needs

@@ -20,7 +20,8 @@ returns : tie.Need-returns
 unfolding cancelling
 returns c =
     c .answer .ensures
-    ∙ ap₂ (λ (n : ℕ) (next : Desk). answer n next (c .before .before .before .args .self)) (c .before .before .rider-number .ensures) (c .before .holding .ensures)
+    ∙ ap₂ (λ (n : ℕ) (next : Desk). answer n next (c .before .before .before .args .self)) (c .before .before .rider-number .ensures)
+    (c .before .holding .ensures)
 
 pub cancelling-spec : {M : Type 1} → statement M
 cancelling-spec = tie.close (tie.spec rider-number-requires holding-requires answer-requires returns)

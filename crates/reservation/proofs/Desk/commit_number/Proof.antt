@@ -19,13 +19,15 @@ returns-2 : tie.Need-returns-2
 returns-2 c =
     let l = c .before .before in
     let s = l .before .before .args in
-    sym (no-hold (s .rider) (cancel-says (s .rider) (sym (l .before .rider-number .ensures) ∙ l .if1 .left)) (s .self) (sym (c .before .held-by .ensures) ∙ c .if2 .taken))
+    sym (no-hold (s .rider) (cancel-says (s .rider) (sym (l .before .rider-number .ensures) ∙ l .if1 .left)) (s .self)
+    (sym (c .before .held-by .ensures) ∙ c .if2 .taken))
 
 returns-3 : tie.Need-returns-3
 returns-3 c =
     let l = c .before .before in
     let s = l .before .before .args in
-    sym (may-commit (s .rider) (cancel-says (s .rider) (sym (l .before .rider-number .ensures) ∙ l .if1 .left)) (s .self) (omega (arith, c .before .held-by .ensures, c .if2 .left)))
+    sym (may-commit (s .rider) (cancel-says (s .rider) (sym (l .before .rider-number .ensures) ∙ l .if1 .left)) (s .self)
+    (omega (arith, c .before .held-by .ensures, c .if2 .left)))
 
 pub commit-number-spec : {M : Type 1} → statement M
 commit-number-spec = tie.close (tie.spec rider-number-requires returns held-by-requires returns-2 returns-3)

@@ -20,7 +20,8 @@ returns : tie.Need-returns
 unfolding committing
 returns c =
     c .answer .ensures
-    ∙ ap₂ (λ (n : ℕ) (next : Desk). answer n next (c .before .before .before .args .self)) (c .before .before .commit-number .ensures) (c .before .taking .ensures)
+    ∙ ap₂ (λ (n : ℕ) (next : Desk). answer n next (c .before .before .before .args .self)) (c .before .before .commit-number .ensures)
+    (c .before .taking .ensures)
 
 pub committing-spec : {M : Type 1} → statement M
 committing-spec = tie.close (tie.spec commit-number-requires taking-requires answer-requires returns)

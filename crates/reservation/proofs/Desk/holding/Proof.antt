@@ -20,7 +20,8 @@ returns-2 c =
     let s = c .before .args in
     let d = s .t1 in
     let long : length (d .held) ≡ 16 = search needs in
-    ap (λ (xs : List ℕ). record { k = d .k; held = xs; committed = d .committed }) (sym (set-out (d .held) (s .rider) (s .rank) (omega (arith, long))))
+    ap (λ (xs : List ℕ). record { k = d .k; held = xs; committed = d .committed })
+    (sym (set-out (d .held) (s .rider) (s .rank) (omega (arith, long))))
 
 pub holding-spec : {M : Type 1} → statement M
 holding-spec = tie.close (tie.spec element-write-self returns returns-2)

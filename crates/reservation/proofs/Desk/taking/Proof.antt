@@ -28,7 +28,8 @@ returns-2 c =
     let d = s .t1 in
     let long : length (d .committed) ≡ 16 = search needs in
     c .before .holding .ensures
-    ∙ ap (λ (xs : List ℕ). record { k = d .k; held = set (d .held) (s .rider) 0; committed = xs }) (sym (set-out (d .committed) (s .rider) (heldBy d (s .rider)) (omega (arith, long))))
+    ∙ ap (λ (xs : List ℕ). record { k = d .k; held = set (d .held) (s .rider) 0; committed = xs })
+    (sym (set-out (d .committed) (s .rider) (heldBy d (s .rider)) (omega (arith, long))))
 
 pub taking-spec : {M : Type 1} → statement M
 taking-spec = tie.close (tie.spec holding-requires element-copy-out-next element-write-next returns returns-2)
