@@ -202,19 +202,6 @@ fn ranks_at(part: &[u8], from: usize) -> [u8; 16]
     ranks
 }
 
-fn print_rank(rank: u8) {
-    print_signed(rank as i64);
-}
-
-fn print_ranks(ranks: &[u8; 16]) {
-    let mut i: usize = 0;
-    while i < 16 {
-        print_rank(ranks[i]);
-        i = i + 1;
-    }
-    io::write_all(1, b"\n");
-}
-
 fn turn(h: Head, desk: Desk, part: &[u8]) -> Answer {
     if h.kind == b'o' {
         return desk::opened(desk, part);
@@ -250,8 +237,8 @@ fn serve(h: Head, desk: Desk, part: &[u8]) -> Desk {
         ],
     );
     print_row(&[next.k as i64]);
-    print_ranks(&next.held);
-    print_ranks(&next.committed);
+    print_bytes(&next.held);
+    print_bytes(&next.committed);
     next
 }
 

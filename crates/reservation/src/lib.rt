@@ -4,7 +4,7 @@ ghost use mathlib.Core.Path.{_≡_};
 ghost use mathlib.Core.Bool.{not, _||_};
 ghost use Prim.Native.Nat.{_%_};
 ghost use lib.Dec.{eqb};
-ghost use lib.ListN.{replicate};
+ghost use lib.ListN.{getD, replicate};
 ghost use Rattle.model.specs.Questions.{firstNo};
 ghost use Rattle.reservation.specs.Reservations.{heldBy, committedBy, free, askQuestions, commitQuestions, cancelQuestions, openFor, holding, taking, answer, asking, committing, cancelling};
 
@@ -73,6 +73,17 @@ fn rider_number(rider: usize) -> u32
     if rider >= RIDERS { 22 } else { 0 }
 }
 
+// The rank of a rider in a row of ranks, 0 where there is none, and for a number that is no rider's.
+fn rank_of(ranks: [u8; 16], rider: usize) -> usize
+    ensures { λ r. ⌜ r ≡ getD ranks rider 0 ⌝ }
+{
+    if rider < RIDERS {
+        ranks[rider] as usize
+    } else {
+        0
+    }
+}
+
 impl Desk {
     // A desk that no record was opened at.
     pub fn fresh() -> Desk
@@ -85,22 +96,16 @@ impl Desk {
     pub fn held_by(self, rider: usize) -> usize
         ensures { λ r. ⌜ r ≡ heldBy self rider ⌝ }
     {
-        if rider < RIDERS {
-            self.held[rider] as usize
-        } else {
-            0
-        }
+        let ranks = self.held;
+        rank_of(ranks, rider)
     }
 
     // The rank that a rider has committed to, 0 none.
     pub fn committed_by(self, rider: usize) -> usize
         ensures { λ r. ⌜ r ≡ committedBy self rider ⌝ }
     {
-        if rider < RIDERS {
-            self.committed[rider] as usize
-        } else {
-            0
-        }
+        let ranks = self.committed;
+        rank_of(ranks, rider)
     }
 
     // Is the rank with no other rider?
