@@ -208,7 +208,7 @@ fn assert_equal_desks(rng: &mut Random, record: &[u8]) -> usize {
     let (mut a, mut b) = (kbest::Desk::fresh(), baseline::Desk::fresh());
     for i in 0..CALLS {
         let (rider, rank) = (rng.from(0, 16) as usize, rng.from(0, 18) as usize);
-        let (got, want) = match rng.from(0, if i % 500 == 0 { 4 } else { 3 }) {
+        let (got, want) = match if i % 500 == 0 { 4 } else { rng.from(0, 3) } {
             0 | 1 => (a.ask(rider, rank), b.ask(rider, rank)),
             2 => (a.cancel(rider), b.cancel(rider)),
             3 => (a.commit(rider), b.commit(rider)),

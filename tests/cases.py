@@ -524,9 +524,10 @@ def desk_limits():
 
 
 def desk_opened_cases():
-    """Desks for lists of one plan, of 8 and of as many as riders, all of them taken; opened anew; never opened."""
+    """A list of one plan, and one of as many plans as riders, all of them taken; opened anew; never opened."""
     yield 'one plan', joined(opened(1), ask(0, 1), ask(1, 2), ask(1, 1), commit(0), opened(1), ask(1, 1))
-    yield 'each rider with a plan', joined(opening(ref.record(chain(4, 4), 16)), *[ask(i, 16 - i) for i in range(16)], *[commit(i) for i in range(16)], ask(15, 1))
+    asks, commits = [ask(i, 16 - i) for i in range(16)], [commit(i) for i in range(16)]
+    yield 'each rider with a plan', joined(opening(ref.record(chain(4, 4), 16)), *asks, *commits, ask(15, 1))
     yield 'opened anew with another k', joined(opened(4), ask(0, 4), ask(1, 3), commit(1), opened(2), commit(0), ask(0, 4), ask(2, 2), ask(1, 2), ask(1, 1))
     yield 'opened with k below K', joined(opened(3, 64), ask(0, 3), ask(0, 4), opened(3, 2), ask(0, 3), ask(0, 2))
     yield 'never opened', joined(ask(0, 1), ask(0, 0), ask(16, 1), commit(0), cancel(0), opening(b''), ask(0, 1))
@@ -547,10 +548,11 @@ def filled_desks():
     """Desks that no call made: a rank twice, ranks that are not listed, a rider with both, any k."""
     none = [0] * 16
     first = [1] + none[1:]
-    both = [(2, [1, 1] + none[2:], none), (2, first, [0, 1] + none[2:]), (2, first, first), (2, [9] + none[1:], none), (0, first, none),
-            (255, none, none), (255, [255] * 16, [128] * 16), (65, [65] + none[1:], none), (3, list(range(16)), list(range(16, 0, -1)))]
-    for n, (k, held, committed) in enumerate(both):
-        calls = joined(ask(0, 1), ask(1, 1), ask(2, 2), ask(3, 255), ask(4, 256), ask(4, 257), commit(0), cancel(1), commit(0), commit(2), commit(15), ask(1, 1), ask(16, 1))
+    desks = [(2, [1, 1] + none[2:], none), (2, first, [0, 1] + none[2:]), (2, first, first), (2, [9] + none[1:], none), (0, first, none),
+             (255, none, none), (255, [255] * 16, [128] * 16), (65, [65] + none[1:], none), (3, list(range(16)), list(range(16, 0, -1)))]
+    asks = joined(ask(0, 1), ask(1, 1), ask(2, 2), ask(3, 255), ask(4, 256), ask(4, 257))
+    calls = asks + joined(commit(0), cancel(1), commit(0), commit(2), commit(15), ask(1, 1), ask(16, 1))
+    for n, (k, held, committed) in enumerate(desks):
         yield 'a desk that no call made, %d' % n, fill(k, held, committed) + calls + opened(2) + ask(1, 1)
 
 
