@@ -13,3 +13,4 @@ pub mod Greedy
 pub mod First
 pub mod Entries
 pub mod Walks
+pub mod Joined

@@ -28,6 +28,13 @@ pub and-T : (a b : Bool) → T (a && b) → T a × T b
 and-T true b t = (tt, t)
 and-T false b t = absurd t
 
+-- tests that follow from each other
+pub same-test : (a b : Bool) → (T a → T b) → (T b → T a) → a ≡ b
+same-test true true h k = refl
+same-test true false h k = absurd (h tt)
+same-test false true h k = absurd (k tt)
+same-test false false h k = refl
+
 pub T-and : (a b : Bool) → T a → T b → T (a && b)
 T-and true b h k = k
 T-and false b h k = h

@@ -80,7 +80,7 @@ inputBook input = wordsOf (length (take mostInput input) / 4 - 1) (drop 4 (take 
 unfoldable pub inputNumber : List ℕ → ℕ
 inputNumber input = cond (wholeWords (take mostInput input)) (askedNumber (inputBook input) (inputCount input)) 1
 
--- ---- the three programs: from the bytes read to the bytes written
+-- ---- the programs that print and file: from the bytes read to the bytes written
 
 -- "The program reads standard input": K and a book in, the printed page out
 unfoldable pub page : List ℕ → List ℕ

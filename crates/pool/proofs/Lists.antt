@@ -1,6 +1,6 @@
 -- Laws of lists: a front that is copied, an element at an index, numbers in a row.
 -- Assumes nothing.
-use mathlib.Core.Path.{_≡_, refl, ap, _∙_}
+use mathlib.Core.Path.{_≡_, refl, _∙_}
 use mathlib.Core.Logic.{inl, inr}
 use mathlib.Core.List.{List, [], _∷_, _++_, append-nil}
 use Prim.Native.Nat.{ℕ, zero, suc, _+_, _≤_, _<_}
@@ -9,7 +9,6 @@ use native.Mathlib.Numerals.{add-one}
 use native.Mathlib.Omega.{arith}
 use lib.ListN.{length, getD, set, take, drop, List·getD-append, drop-of-length-le}
 use lib.Seq.{take-all, take-suc, append-snoc, set-at, length-take-le, getD-take, getD-append-add, paste-suc}
-use Rattle.model.specs.Lists.{upFrom}
 use Rattle.laws.specs.Members.{In, Apart, Rising, below-in}
 
 module _ {A : Type 0} where
@@ -42,16 +41,7 @@ module _ {A : Type 0} where
   at-in (x ∷ xs) zero z h = inl refl
   at-in (x ∷ xs) (suc i) z h = inr (at-in xs i z (omega arith))
 
--- ---- the numbers i, i + 1, ..
-
-pub upFrom-long : (i n : ℕ) → length (upFrom i n) ≡ n
-upFrom-long i zero = refl
-upFrom-long i (suc n) = ap suc (upFrom-long (suc i) n)
-
-pub upFrom-at : (i n k : ℕ) → k < n → getD (upFrom i n) k 0 ≡ i + k
-upFrom-at i zero k h = absurd (omega arith)
-upFrom-at i (suc n) zero h = omega arith
-upFrom-at i (suc n) (suc k) h = omega (arith, upFrom-at (suc i) n k (omega arith))
+-- ---- numbers that rise
 
 pub rising-apart : (xs : List ℕ) → Rising xs → Apart xs
 rising-apart [] r = tt

@@ -9,9 +9,10 @@ use native.Mathlib.Omega.{arith}
 use lib.ListN.{length, getD, set, take, drop, length-append, length-drop, take-append-drop}
 use lib.Seq.{drop-cons, split-at, drop-drop, take-add, take-at, length-take-le, getD-drop, set-at}
 use Rattle.model.specs.Lists.{upFrom}
+use Rattle.laws.specs.Joined.{upFrom-long}
 use Rattle.laws.specs.Members.{In, every-in, in-every, in-++, ++-in, Apart, upFrom-in, upFrom-rising}
 use Rattle.pool.specs.Entries.{Slots, movedUp, movedBack}
-use Rattle.pool.proofs.Lists.{set-last, front-more, front-at, after-front, at-in, upFrom-long, rising-apart}
+use Rattle.pool.proofs.Lists.{set-last, front-more, front-at, after-front, at-in, rising-apart}
 
 -- ---- lists of the same elements
 

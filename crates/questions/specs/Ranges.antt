@@ -66,6 +66,17 @@ pub all-same : (n : ℕ) (f g : ℕ → Bool) → ((i : ℕ) → i < n → f i �
 all-same zero f g h = refl
 all-same (suc n) f g h = ap₂ _&&_ (all-same n f g (λ i l. h i (omega arith))) (h n (omega arith))
 
+-- two tests at once
+pub all-both : (n : ℕ) (f g : ℕ → Bool) → all n (λ (i : ℕ). f i && g i) ≡ (all n f && all n g)
+all-both zero f g = refl
+all-both (suc n) f g = ap (λ (b : Bool). b && (f n && g n)) (all-both n f g) ∙ mixed (all n f) (all n g) (f n) (g n)
+  where
+    mixed : (a b c d : Bool) → (a && b && (c && d)) ≡ (a && c && (b && d))
+    mixed true true c d = refl
+    mixed true false true d = refl
+    mixed true false false d = refl
+    mixed false b c d = refl
+
 -- a sum grows with n
 pub sum-mono : (m n : ℕ) (f : ℕ → ℕ) → m ≤ n → sumTo m f ≤ sumTo n f
 sum-mono m zero f h = let e : m ≡ 0 = omega arith in rw e (omega arith)

@@ -2,7 +2,7 @@
 -- Assumes nothing.
 use mathlib.Core.Path.{_≡_, refl, sym, ap, _∙_, subst}
 use mathlib.Core.Bool.{true, false}
-use mathlib.Core.List.{List, [], _∷_, _++_, append-nil, append-assoc}
+use mathlib.Core.List.{List, [], _∷_, _++_, append-nil}
 use Prim.Native.Nat.{ℕ, _+_, _-_, _≤_, _<_}
 use native.Mathlib.Numerals.{add-one}
 use native.Mathlib.Omega.{arith}
@@ -13,6 +13,7 @@ use lib.ListN.{length, take, getD, set}
 use lib.Seq.{take-length, take-suc}
 use Rattle.model.specs.Lists.{forEach}
 use Rattle.model.specs.Page.{decimal, signedDecimal, choiceText}
+use Rattle.laws.specs.Joined.{forEach-++}
 use Rattle.io.specs.Digits.{digits as spelt, Fewest}
 use Rattle.bytes_io.specs.Slices.{written}
 use Rattle.bytes_io.proofs.Parts.{written-none, set-written}
@@ -43,20 +44,19 @@ pub numbered : (b : ℕ) → (b ≡ 255 → ⊥) → choiceText b ≡ (32 ∷ []
 numbered b h = rw (ne-eqb b 255 h)
 
 -- the digits that were spelt are the number's
-pub number : {o o′ : List ℕ} {at r : ℕ} (x n : ℕ) (buf : List ℕ) → n ≤ 20 → Fewest 10 1 x n → take n buf ≡ spelt 10 n x → Appended o at (take n buf) o′ r
+pub number : {o o′ : List ℕ} {at r : ℕ} (x n : ℕ) (buf : List ℕ) → n ≤ 20 → Fewest 10 1 x n → take n buf ≡ spelt 10 n x
+    → Appended o at (take n buf) o′ r
     → Appended o at (decimal x) o′ r
 unfolding decimal
 number {o} {o′} {at} {r} x n buf h few e a = subst (λ (t : List ℕ). Appended o at t o′ r) (e ∙ sym (spelled n 20 x h few)) a
 
-pub forEach-++ : {A B : Type 0} (f : A → List B) (xs ys : List A) → forEach f (xs ++ ys) ≡ forEach f xs ++ forEach f ys
-forEach-++ f [] ys = refl
-forEach-++ f (x ∷ xs) ys = rw (forEach-++ f xs ys, append-assoc)
-
 -- the choices up to the next state
-pub one-more : (xs : List ℕ) (i : ℕ) → i < length xs → forEach choiceText (take (i + 1) xs) ≡ forEach choiceText (take i xs) ++ choiceText (getD xs i 0)
+pub one-more : (xs : List ℕ) (i : ℕ) → i < length xs → forEach choiceText (take (i + 1) xs)
+    ≡ forEach choiceText (take i xs) ++ choiceText (getD xs i 0)
 one-more xs i h =
     ap (forEach choiceText) (ap (λ (n : ℕ). take n xs) (add-one i) ∙ take-suc xs i 0 h)
-    ∙ forEach-++ choiceText (take i xs) (getD xs i 0 ∷ []) ∙ ap (λ (t : List ℕ). forEach choiceText (take i xs) ++ t) (append-nil (choiceText (getD xs i 0)))
+    ∙ forEach-++ choiceText (take i xs) (getD xs i 0 ∷ []) ∙ ap (λ (t : List ℕ). forEach choiceText (take i xs) ++ t)
+    (append-nil (choiceText (getD xs i 0)))
 
 -- a text that is another's
 pub spoken : {o o′ : List ℕ} {at r : ℕ} {t u : List ℕ} → t ≡ u → Appended o at t o′ r → Appended o at u o′ r

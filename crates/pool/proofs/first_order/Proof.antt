@@ -7,9 +7,10 @@ use native.Mathlib.Omega.{arith}
 use lib.ListN.{length, set, take, drop}
 use Rattle.model.specs.Lists.{upFrom}
 use native.Mathlib.Nat.{zero-add}
+use Rattle.laws.specs.Joined.{upFrom-long, upFrom-at}
 use Rattle.pool.specs.Entries.{Slots}
 use Rattle.pool.proofs.Moves.{first-slots}
-use Rattle.pool.proofs.Lists.{front-more, copied-all, upFrom-long, upFrom-at}
+use Rattle.pool.proofs.Lists.{front-more, copied-all}
 use borrow.Author.Needs.{needs}
 use Rattle.pool.proofs.first_order.Statement.{statement}
 use Rattle.pool.proofs.first_order.Tie as tie

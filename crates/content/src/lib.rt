@@ -1,0 +1,1 @@
+// A model by its content: definitions and laws in specs/, no code.

@@ -1,0 +1,5 @@
+pub mod Table
+pub mod Days
+pub mod Convert
+pub mod Read
+pub mod Says
