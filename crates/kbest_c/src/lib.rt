@@ -4,13 +4,14 @@ ghost use lib.ListN.{length, take, drop};
 ghost use Rattle.model.specs.Questions.{bookNumber};
 ghost use Rattle.model.specs.Record.{acceptNumber};
 ghost use Rattle.model.specs.Calls.{powerOf, valueNumber, valueCost, leastCost, roomOf, rankNumber, rankCount, rankCosts, rankPlans, writeNumber, writeLength, writeRecord, acceptStates, acceptCount, shown};
+ghost use Rattle.reward_table.specs.Convert.{convertNumber, convertLength, convertSlice};
 ghost use Rattle.reservation.specs.Reservations.{heldBy, committedBy, openFor, reply, asking, committing, cancelling, opening};
 ghost use Rattle.kbest_c.specs.Part.{shownOffset, shownLength};
 ghost use Rattle.kbest_c.specs.Version.{version};
 use reservation::Desk;
 
 // The version in the file VERSION: its first number × 10,000 + its second × 100 + its third.
-const VERSION: u32 = 10300;
+const VERSION: u32 = 10400;
 
 // The version of the library that is linked.
 #[no_mangle]
@@ -82,6 +83,16 @@ pub extern "C" fn kbest_write(book: &[i32], k: usize, filed: &mut [u8], size: &m
     let w = write::write(book, k, filed);
     *size = w.length;
     w.no
+}
+
+// The number of converting a planners' table to a book; the book's length in words. The book goes to the front of the slice.
+#[no_mangle]
+pub extern "C" fn kbest_convert(table: &[i32], book: &mut [i32], size: &mut usize) -> u32
+    ensures { λ r. ⌜ (r ≡ convertNumber (now (table .entry)) (length (now (book .entry)))) × (now (size .exit) ≡ convertLength (now (table .entry)) (length (now (book .entry)))) × (now (book .exit) ≡ convertSlice (now (table .entry)) (now (book .entry))) ⌝ }
+{
+    let c = convert::convert(table, book);
+    *size = c.length;
+    c.no
 }
 
 // The number of accepting a record; how many states its book has and how many plans it lists.
