@@ -5,8 +5,8 @@
     tests/cases.py show SEED N      prints case N of a seed of fresh.py, each command with what is expected; seed `stored` for a stored one
 
 Each rule of document 01 has its cases here: the tours, each question from both sides, which of two comes first, rooms and counts at their limits,
-ties, records with each byte changed, pages, the largest book. After them stand those of document 02: stops, six next posts, the desk. Breadth is fresh.py's;
-a few of its kinds are stored too. New cases are added at the end, so that the others keep their numbers.
+ties, records with each byte changed, pages, the largest book. After them stand those of document 02: stops, six next posts, the desk, planners' tables. Breadth
+is fresh.py's; a few of its kinds are stored too. New cases are added at the end, so that the others keep their numbers.
 """
 
 import os
@@ -17,9 +17,11 @@ import books
 import kinds
 import machine
 import reference as ref
+import rewards
 import search
+import tables
 import tours
-from machine import BOOK, OUT, Case, Command, accept, ask, book, cancel, commit, fill, little, opening, page, put, rank, show, value, write
+from machine import BOOK, OUT, Case, Command, accept, ask, book, cancel, commit, convert, fill, little, opening, page, put, rank, show, value, write
 
 LOW, HIGH = -2 ** 31, 2 ** 31 - 1
 REFUSALS = {*range(15), 19, 20, 21}    # what accepting a record can give
@@ -563,6 +565,170 @@ def desk_cases():
         yield 'desk: ' + title, calls
 
 
+# ---- planners' tables
+
+# Two states, two choices each, D = 4, H = 2; the first state is 1.
+TABLE = tables.build(4, 2, 1, [[(7, [(0, 1), (1, 3)]), (9, [(1, 4)])], [(2, [(0, 2), (1, 2)]), (-3, [(0, 4)])]], [1, -6])
+TABLE_AT = tables.Places(TABLE)
+
+
+def one_row(states, *lines, first=0, at=0, stages=1, scale=4, reward=5, closing=0):
+    """One choice a state, to itself; that of the state `at` has these lines, where there are any."""
+    rows = [[(reward, list(lines) if lines and state == at else [(state, scale)])] for state in range(states)]
+    return tables.build(scale, stages, first, rows, [closing] * states)
+
+
+def some_lines(rng, states, total):
+    """8 choices with together so many lines and rising next states; D = 6."""
+    counts = [1] * 8
+    while sum(counts) + 8 < total:
+        counts[rng.choice([c for c in range(8) if counts[c] < 6])] += 1
+    return [(rng.randint(-99, 99), books.nexts(rng, 6, states, r)) for r in counts]
+
+
+def table_of_lines(first, total):
+    """Seven states, H = 8: the first state has `first` lines, all together `total`, so that the book has first + 7 × total + 7."""
+    rng, each_state = random.Random(first), [(total - first + i) // 6 for i in range(6)]
+    rows = [some_lines(rng, 7, n) for n in [first] + each_state]
+    return tables.build(6, 8, 0, rows, [rng.randint(-99, 99) for _ in range(7)])
+
+
+def each_table(what, place, *values):
+    return [('%s %d' % (what, x), with_words(TABLE, (place, x))) for x in values]
+
+
+def table_sizes():
+    """(what, table) on both sides of each part of 25; so the next ones."""
+    yield from (('the first %d words' % n, TABLE[:n]) for n in (*range(8), len(TABLE) - 2, len(TABLE) - 1))
+    yield 'a word more', TABLE + [0]
+    yield from each_table('n', 2, LOW, -1, 0, 1, 3, 16, 17, HIGH)
+    yield from (('n %d with all its lines' % n, one_row(n)) for n in (1, 2, 15, 16, 17))
+    yield from each_table('first state', 3, LOW, -1, 0, 1, 2, HIGH)
+    yield from (('first state %d of 16' % s, one_row(16, first=s)) for s in (-1, 0, 15, 16))
+    yield from each_table('D', 0, LOW, -1, 0, 3, 5, 101, HIGH)
+    yield from (('D %d with weights that add to it' % d, one_row(2, scale=d)) for d in (0, 1, 2, 99, 100, 101))
+    yield from each_table('H', 1, LOW, -1, 0, 1, 3, 8, 9, HIGH)
+    yield from each_table('L', 4, LOW, -1, 0, 1, TABLE[4] - 1, TABLE[4] + 1, 2048, 2049, HIGH)
+    yield 'sizes alone, n and L 0', [4, 2, 0, 0, 0]
+
+
+def table_lines():
+    """26: choice counts, r, lines that fit and are used."""
+    at = TABLE_AT
+    yield from each_table('choices of state 0:', at.counts[0], LOW, -1, 0, 1, 3, 8, 9, HIGH)
+    yield from each_table('choices of the last state:', at.counts[-1], LOW, 0, 1, 3, HIGH)
+    yield from (('%d choices with all their lines' % n, tables.build(1, 2, 0, [[(c, [(0, 1)]) for c in range(n)]], [0])) for n in (0, 1, 8, 9))
+    yield from each_table('r', at.left + at.heads[0], LOW, -1, 0, 1, 3, at.lines - 1, at.lines, HIGH)
+    yield from each_table('r of the last choice', at.left + at.heads[-1], LOW, -1, 0, 2, 3, 4, HIGH)
+    for what, line in (('before the closing lines', at.closing[0]), ('after them', at.lines)):
+        for left in (0, 1):
+            words = TABLE[:4] + [TABLE[4] + 1] + TABLE[5:at.left + line] + [left] + TABLE[at.left + line:at.right + line] + [0] + TABLE[at.right + line:]
+            yield 'a line too many, %s, with %d on the left' % (what, left), words
+    short = [x for i, x in enumerate(TABLE) if i not in (at.right - 1, len(TABLE) - 1)]
+    yield 'a closing line too few', with_words(short, (4, TABLE[4] - 1))
+    yield 'closing lines alone', tables.build(1, 1, 0, [[]], [0])
+
+
+def table_words():
+    """26: sums of weights, closing lines, rewards."""
+    at = TABLE_AT
+    for what, rows in (('the first choice', at.steps[0]), ('the last choice', at.steps[-1])):
+        weight = TABLE[at.right + rows[0]]
+        yield from each_table('a weight of ' + what, at.right + rows[0], *sorted({LOW, -1, 0, weight - 1, weight + 1, HIGH}))
+    for weights in ((HIGH, HIGH, 6), (LOW, LOW, 4), (HIGH, HIGH, HIGH), (4, 0, 0), (5, -1, 0), (HIGH, -HIGH, 4), (1, 1, 1), (1, 1, 2), (2, 2, 1)):
+        yield 'weights %d, %d and %d of 4' % weights, one_row(3, *enumerate(weights))
+    for s in range(2):
+        yield from each_table('left of closing line %d:' % s, at.left + at.closing[s], LOW, -1, 1, HIGH)
+    for what, line in (('reward', at.heads[0]), ('last reward', at.heads[-1]), ('closing reward', at.closing[0]), ('last closing reward', at.closing[-1])):
+        yield from each_table(what, at.right + line, LOW, -100001, -100000, 100000, 100001, HIGH)
+
+
+def table_books():
+    """(what, table) on both sides of what the produced book's questions judge."""
+    yield from (('a book of %d lines' % (first + 7 * total + 7), table_of_lines(first, total)) for first, total in ((46, 285), (47, 285), (46, 286)))
+    yield from (('%d states and H %d: a book of %d posts' % (n, h, 1 + n * h), one_row(n, stages=h)) for n, h in ((9, 7), (8, 8), (16, 3), (16, 4), (13, 5)))
+    for n in (38, 50):    # the second is longer than any room
+        yield 'a book of %d lines and 65 posts' % (57 * n + 8), tables.build(6, 8, 0, [some_lines(random.Random(n), 8, n)] * 8, [0] * 8)
+    for stages in (1, 2):
+        for state in (0, 1):
+            of = ' of state %d, first state 0, H %d' % (state, stages)
+            row = lambda *lines: one_row(8, *lines, at=state, stages=stages, scale=9)
+            yield from (('%d lines' % r + of, row(*to_first(9, r))) for r in (6, 7, 8))
+            yield from (('next state %d of 8' % step + of, row((step, 9))) for step in (LOW, -1, 0, 7, 8, HIGH))
+            yield 'next states that fall' + of, row((3, 4), (2, 5))
+            yield 'a next state twice' + of, row((3, 4), (3, 5))
+            yield from (('weights %d and %d of 9' % (x, 9 - x) + of, row((3, x), (4, 9 - x))) for x in (LOW + 10, -1, 0, 1, 8, 9, 10, HIGH))
+    for stages, limit in ((7, 5000), (8, 44)):
+        for x in (limit, limit + 1, -limit, -limit - 1):
+            yield 'D 100, H %d, reward %d' % (stages, x), one_row(2, stages=stages, scale=100, reward=x)
+            yield 'D 100, H %d, closing reward %d' % (stages, x), one_row(2, stages=stages, scale=100, closing=x)
+
+
+def table_shapes():
+    yield 'the table of docs/FORMAT.md', tables.BY_HAND
+    yield from (('two states of document 001, the first %d' % s, tables.two_states(s)) for s in range(2))
+    yield 'n 1 and H 1', one_row(1)
+    yield 'n 1 and H 8', one_row(1, stages=8)
+    yield 'rewards of 100,000', one_row(2, (0, 2), (1, 2), reward=100000, closing=100000, stages=4)
+    yield 'rewards of -100,000', one_row(2, (0, 2), (1, 2), reward=-100000, closing=-100000, stages=4)
+    yield 'rewards of 0', one_row(2, (0, 2), (1, 2), reward=0, stages=2)
+    yield 'states that no policy reaches', one_row(3, (0, 1), (1, 3), at=0, stages=3)
+
+
+# A fault for each number that leaves the others in place.
+TABLE_FAULTS = {
+    25: lambda at: (3, 2),
+    26: lambda at: (at.left + at.closing[0], 1),
+    11: lambda at: (at.left + at.steps[0][0], 1),
+    13: lambda at: (at.right + at.heads[0], 5001),
+}
+
+
+def table_orders():
+    """(what, table): two faults each, in a table that has none else and in one with a choice of 7 lines."""
+    words = one_row(2, (0, 40), (1, 60), stages=7, scale=100)
+    seven = one_row(2, *[(0, 0)] * 6, (0, 100), at=1, stages=7, scale=100)
+    for base in (words, seven):
+        at = tables.Places(base)
+        for p, q in ((25, 26), (25, 11), (26, 11), (26, 13), (11, 13), (25, 13)):
+            found = with_words(base, *(TABLE_FAULTS[n](at) for n in (p, q)))
+            yield 'faults for %d and %d%s' % (p, q, ' and 9' if base is seven else ''), found
+
+
+def conversion(words, *counts):
+    """In a room that is a byte short of the book, one that fits, and one with a word and three bytes more; and what stands there then, as a book. A table
+    that has no book is refused whatever the room is."""
+    if rewards.table_no(words):
+        return book(words) + [convert(0), convert(8)]
+    room = kinds.room_for(words)
+    calls = [Command('convert', OUT, OUT + end) for end in (4 * room - 1, 4 * room, 4 * room + 7)]
+    if rewards.convert(words, [0] * room)[0] == 0:
+        calls += kinds.made_book(words, 3)[:2] + [c for k in counts for c in kinds.made_book(words, k)[2:]]
+    return book(words) + calls
+
+
+def longest_tables():
+    words = tables.longest(random.Random('longest'))
+    yield 'the longest table', words
+    yield 'the longest table and a word more', words + [0]
+    yield 'the longest table, with H 2', with_words(words, (1, 2))
+    other = (words[3] + 1) % 16
+    yield 'a line more than is allowed', tables.with_row(words, other, 0, rewards.Table(words).choices[other][0][1] + [(0, 0)])
+
+
+def table_cases():
+    for number, rows in ((25, table_sizes()), (26, [*table_lines(), *table_words()])):
+        for what, words in rows:
+            yield 'table, question %d: %s' % (number, what), conversion(words)
+    for what, words in [*table_books(), *table_orders(), *longest_tables()]:
+        yield 'table: ' + what, conversion(words)
+    for what, words in table_shapes():
+        yield 'table: ' + what, conversion(words, 64)
+    a = tours.book_a()
+    yield 'table: a book is none', book(a) + [convert(0), convert(40)]
+    yield 'table: all bytes are lent', book(TABLE) + [Command('convert', 0, machine.PLACES)]
+
+
 # ---- all of them
 
 DRAWN = {'small': 6, 'deep': 2, 'wide': 1, 'ties': 5, 'few': 3, 'unreached': 3, 'crossing': 6, 'many': 1, 'edge': 2, 'full': 1, 'faults': 6, 'noise': 8}
@@ -570,6 +736,7 @@ DRAWN_STOPS = {'stops': 3, 'post_0_stops': 1, 'stops_deep': 1, 'stops_each_stage
                'sure_stops': 1, 'stops_barely': 1, 'stops_and_ties': 2, 'stops_and_gains': 1, 'stops_wide': 1, 'stops, faults': 3}
 DRAWN_ROWS = {'six': 2, 'stops_six': 2, 'seven': 6}
 DRAWN_DESKS = {'desk': 10}
+DRAWN_TABLES = {'convert': 24}
 
 
 def made(*groups):
@@ -590,6 +757,8 @@ def stored():
     cases += drawn(DRAWN_ROWS, sum(DRAWN.values()) + sum(DRAWN_STOPS.values()))
     cases += made(desk_cases())
     cases += drawn(DRAWN_DESKS, sum(DRAWN.values()) + sum(DRAWN_STOPS.values()) + sum(DRAWN_ROWS.values()))
+    cases += made(table_cases())
+    cases += drawn(DRAWN_TABLES, sum(sum(counts.values()) for counts in (DRAWN, DRAWN_STOPS, DRAWN_ROWS, DRAWN_DESKS)))
     return [case._replace(title='%d %s' % (n, case.title)) for n, case in enumerate(cases)]
 
 

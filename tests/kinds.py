@@ -6,10 +6,13 @@ import books
 import desk
 import machine
 import reference as ref
+import rewards
 import search
-from machine import BOOK, OUT, Case, Command, accept, ask, book_bytes, cancel, commit, fill, head, opening, page, put, rank, show, value, write
+import tables
+from machine import BOOK, OUT, Case, Command, accept, ask, book_bytes, cancel, commit, convert, fill, head, opening, page, put, rank, show, value, write
 
 MOST_INPUT = machine.PLACES - BOOK + 4
+MOST_ROOM = (BOOK - OUT) // 4    # words before the place of books
 
 
 def some_count(rng, plans):
@@ -355,6 +358,46 @@ def at_desk(rng):
             yield from desk_call(rng, k)
 
 
+# ---- planners' tables
+
+def room_for(words):
+    """As many words as the book of a table has, or as there is place for; some for a table that has no book."""
+    return 40 if rewards.table_no(words) else min(len(rewards.book_of(words)), MOST_ROOM - 9)
+
+
+def made_book(words, k):
+    """The book that stands where it was converted to, checked and ranked."""
+    made = rewards.book_of(words)
+    return [Command('book', OUT, OUT + 4 * len(made)), Command('check'), Command('least'), rank(k, k, k * ref.Book(made).posts)]
+
+
+def conversion(rng):
+    """A table, into rooms that fit, that are short or that are longer, also by less than a word; then its book, if it is accepted."""
+    words = tables.any_table(rng)
+    room = room_for(words)
+    yield from machine.book(words)
+    for _ in range(rng.randint(1, 3)):
+        yield convert(rng.choice([room - 1, room, room + 1, room + 9, 0, rng.randrange(room)]))
+    yield Command('convert', OUT, OUT + 4 * room + rng.randrange(4))
+    if rewards.convert(words, [0] * room)[0] == 0 and tables.feasible(words):
+        yield from made_book(words, some_count(rng, len(ref.in_order(tuple(rewards.book_of(words))))))
+
+
+def table_input(rng):
+    """A table's bytes; or too few, a leftover, or more than is read."""
+    kind = rng.randrange(10)
+    if kind == 0:
+        return bytes(rng.randrange(256) for _ in range(rng.randrange(24)))
+    data = book_bytes(tables.any_table(rng))
+    if kind == 1:
+        return data + bytes(rng.randint(1, 3))
+    if kind == 2:
+        return data[:rng.randrange(len(data) + 1)]
+    if kind == 3:
+        return data + bytes(rng.choice([4, 16472, max(0, 16472 - len(data)), 40000]))
+    return data
+
+
 # ---- which kinds there are
 
 def good_of(shape):
@@ -377,7 +420,7 @@ KINDS = {name: (weight, good_of(getattr(books, name))) for name, weight in SHAPE
 KINDS.update({'fault %d' % n: (36, fault(n)) for n in range(1, 14)})
 KINDS.update({'seven': (40, seven), 'vast': (16, vast), 'faults': (120, faults(FAULTY)), 'stops, faults': (120, faults(FAULTY_STOPS)), 'wild': (60, wild),
               'bad counts': (60, bad_counts), 'noise': (140, noise), 'forged': (36, forged), 'longest': (4, longest), 'powers': (10, powers),
-              'page': (200, some_page), 'desk': (120, at_desk)})
+              'page': (200, some_page), 'desk': (120, at_desk), 'convert': (200, conversion)})
 
 
 def make(seed, n, name):

@@ -1,15 +1,16 @@
-"""The commands of the program `cases`, as its head lists them, and what it has to print for them by reference.py and desk.py."""
+"""The commands of the program `cases`, as its head lists them, and what it has to print for them by reference.py, desk.py and rewards.py."""
 
 import collections
 import contextlib
 
 import desk
 import reference as ref
+import rewards
 import search
 
 KINDS = {'end': 'e', 'read': 'i', 'text': 't', 'book': 'm', 'rank': 'r', 'write': 'w', 'check': 'c', 'least': 'l', 'value': 'v', 'power': 'd', 'accept': 'a',
-         'show': 's', 'browse': 'b', 'page': 'p', 'open': 'o', 'ask': 'h', 'commit': 'y', 'cancel': 'n', 'fill': 'f'}
-PLACES, MOST_COSTS, FILL = 40960, 80, 77
+         'show': 's', 'browse': 'b', 'page': 'p', 'open': 'o', 'ask': 'h', 'commit': 'y', 'cancel': 'n', 'fill': 'f', 'convert': 'x'}
+PLACES, MOST_COSTS, MOST_WORDS, FILL = 40960, 80, 5400, 77
 OUT, BOOK, TEXT = 8, 21504, 38400    # after k: where lent slices and records are put, books, and plans, titles and numbers for the desk
 PRINTED = 32
 PRIME = 2 ** 55 - 55
@@ -56,6 +57,11 @@ def rank(k, places, room):
 
 def write(k, room):
     return Command('write', OUT, OUT + room, k=k)
+
+
+def convert(room):
+    """The last book, taken as a table, into a slice of so many words."""
+    return Command('convert', OUT, OUT + 4 * room)
 
 
 def accept(length, at=OUT):
@@ -173,6 +179,14 @@ class Machine:
     def write(self, c, part):
         return self.lend(lambda costs, lent: ref.write(self.words, c.k, lent), c, part)
 
+    def convert(self, c, part):
+        def call(costs, lent):
+            words = ref.words_of(lent)[:MOST_WORDS]
+            figures = rewards.convert(self.words, words)
+            lent[:4 * len(words)] = book_bytes(words)
+            return figures
+        return self.lend(call, c, part)
+
     def check(self, c, part):
         return row(ref.check(self.words), 0, 0)
 
@@ -195,7 +209,6 @@ class Machine:
 
     def page(self, c, part):
         return '\n' + ref.page(part).decode()
-
 
     def at_desk(self, no, part):
         rider = number_at(part, 0)
@@ -230,7 +243,7 @@ def books_of(case):
     """The words of each book that a case makes."""
     machine = Machine()
     for c in whole(case):
-        if c.kind in ('read', 'book'):
+        if c.kind in ('read', 'book', 'convert'):
             machine.run(c)
         if c.kind == 'book':
             yield machine.words

@@ -1,5 +1,6 @@
 #!/usr/bin/env python3
-"""The three programs in target/bin: kbest and kbest_file, which read K and a book, and kbest_page, which reads a record; compared with reference.py.
+"""The four programs in target/bin: kbest and kbest_file, which read K and a book, kbest_page, which reads a record, and kbest_table, which reads a planners'
+table; compared with reference.py and rewards.py.
 
     tests/programs.py [COUNT] [SEED]     the edges of what they read, then random inputs to each, by default 300 of seed 1
     tests/programs.py store              writes the stored input and output of their crates; the same on every run
@@ -18,12 +19,15 @@ import time
 import cases
 import kinds
 import reference as ref
+import rewards
 import search
+import tables
 import tours
 from machine import book_bytes, little
 
 ROOT = os.path.join(os.path.dirname(os.path.abspath(__file__)), '..')
-PROGRAMS = {'kbest': (ref.page, kinds.page_input), 'kbest_file': (ref.filed, kinds.page_input), 'kbest_page': (ref.record_page, kinds.record_input)}
+PROGRAMS = {'kbest': (ref.page, kinds.page_input), 'kbest_file': (ref.filed, kinds.page_input), 'kbest_page': (ref.record_page, kinds.record_input),
+            'kbest_table': (rewards.table_book, kinds.table_input)}
 SLOWLY = 10    # one random input in so many
 PIECES, PAUSE = 12, 0.002
 
@@ -107,6 +111,26 @@ def record_edges():
     yield 'a byte after the record of A', a + b'\0'
 
 
+def longest_table():
+    """A table of 4,117 words, all that can be accepted, one word less than is read."""
+    return book_bytes(tables.longest(random.Random('longest')))
+
+
+def table_edges():
+    longest, small = longest_table(), book_bytes(cases.TABLE)
+    yield 'the longest table', longest
+    yield from (('%d bytes after the longest table' % n, longest + bytes(n)) for n in (1, 2, 3, 4, 5, 6, 7, 8, 70000))
+    yield 'the longest table, with H 8', book_bytes(cases.with_words(ref.words_of(longest), (1, 8)))
+    yield 'the longest book of a table', book_bytes(tables.build(1, 8, 0, [[(0, [(0, 1)] + [(0, 0)] * 2045)]], [0]))
+    yield from (('a book of %d lines' % lines, book_bytes(cases.table_of_lines(first, 285))) for first, lines in ((46, 2048), (47, 2049)))
+    yield from (('a book of %d posts' % (1 + n * h), book_bytes(cases.one_row(n, stages=h))) for n, h in ((9, 7), (8, 8)))
+    yield from (('the first %d bytes of a table' % n, small[:n]) for n in (*range(9), 19, 20, 21, len(small) - 1, len(small)))
+    yield from (('%d bytes after a table' % n, small + bytes(n)) for n in range(1, 5))
+
+
+EDGES = {'kbest': input_edges, 'kbest_file': input_edges, 'kbest_page': record_edges, 'kbest_table': table_edges}
+
+
 def edge_differs(name, data):
     """As differs, at once and through a slow pipe."""
     expected = PROGRAMS[name][0](data)
@@ -118,15 +142,16 @@ def edge_differs(name, data):
 def edges():
     """(program, what, input)"""
     for name in PROGRAMS:
-        yield from ((name, what, data) for what, data in (record_edges() if name == 'kbest_page' else input_edges()))
+        yield from ((name, what, data) for what, data in EDGES[name]())
 
 
 # ---- the stored input and output
 
 def stored():
     """For each crate its input and output. If kbest or kbest_file read a word less it would accept the book, and if it counted one byte more it would say 1;
-    if kbest_page read a byte less it would accept the record."""
-    inputs = {'kbest': longest_input() + bytes(5), 'kbest_file': longest_input() + bytes(5), 'kbest_page': longest_record(cases.largest()) + bytes(1)}
+    if kbest_page read a byte less it would accept the record, and if kbest_table read a word less the table."""
+    inputs = {'kbest': longest_input() + bytes(5), 'kbest_file': longest_input() + bytes(5), 'kbest_page': longest_record(cases.largest()) + bytes(1),
+              'kbest_table': longest_table() + bytes(5)}
     with search.instead_of_enumeration():
         return {name: (data, PROGRAMS[name][0](data)) for name, data in inputs.items()}
 

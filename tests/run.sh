@@ -1,11 +1,11 @@
 #!/usr/bin/env bash
-# All tests besides the proofs: the examples in other languages, the unit tests, the three programs, and fresh random cases for some seconds, by default 15.
+# All tests besides the proofs: the examples in other languages, the unit tests, the four programs, and fresh random cases for some seconds, by default 15.
 set -eu
 cd "$(dirname "$0")/.."
 tests/needs.sh
 export PYTHONDONTWRITEBYTECODE=1
 mkdir -p target
-rt check kbest kbest_file kbest_page cases >target/tests.log 2>&1 || { tail -20 target/tests.log; exit 1; }
+rt check kbest kbest_file kbest_page kbest_table cases >target/tests.log 2>&1 || { tail -20 target/tests.log; exit 1; }
 bindings/build.sh
 python3 -m unittest discover -s tests -p 'test_*.py'
 python3 tests/programs.py

@@ -25,12 +25,19 @@ import books
 import cases
 import kinds
 import reference as ref
+import rewards
+import table
+import tables
 import tours
 from kbest import QUESTIONS
+from tables import BY_HAND
+from test_tables import BOOK_BY_HAND
 
 KBEST = os.path.join(ROOT, 'kbest')
 PYTHON = sys.executable, '-S'    # with the standard library alone
 A, A_3 = book.text_of_words(tours.book_a()).encode(), ref.record(tours.book_a(), 3)
+TABLE = table.text_of_words(BY_HAND).encode()
+REWARDS = b'4 of 4, scale 4\n1 41 0 0 0 0 0\n2 18 0 0 1 0 0\n3 10 1 - 0 0 0\n4 -36 1 - 1 - 0\n'
 OLD = b'as it was\n'
 
 
@@ -44,6 +51,15 @@ def text(words):
 
 def reason(number):
     return b'refused %d: %s\n' % (number, QUESTIONS[number].encode())
+
+
+def reward_page(words, k):
+    """The policies of a table by their own rewards, the largest first, and of equal ones by their choices."""
+    found = rewards.Table(words)
+    best = sorted((-rewards.expected_reward(found, policy), policy) for policy in rewards.policies(found))[:k]
+    lines = ['%d of %d, scale %d' % (len(best), k, found.scale ** found.stages)]
+    lines += ['%d %d %s' % (j + 1, -cost, ' '.join('-' if c == 255 else str(c) for c in policy)) for j, (cost, policy) in enumerate(best)]
+    return ('\n'.join(lines) + '\n').encode()
 
 
 def accepted_books(count):
@@ -108,6 +124,12 @@ class Verbs(Folder):
     def test_page(self):
         self.every_way('page', A_3, [], tours.PAGE.encode())
 
+    def test_rewards(self):
+        self.every_way('rewards', TABLE, ['4'], REWARDS)
+
+    def test_convert(self):
+        self.every_way('convert', TABLE, [], text(BOOK_BY_HAND))
+
     def test_without_a_verb(self):
         source = self.file('book', A)
         self.expect(run(source, '3'), 0, tours.PAGE.encode())
@@ -124,7 +146,7 @@ class Verbs(Folder):
             self.expect(done, 0, tours.PAGE.encode())
 
     def test_check(self):
-        for content, forms in ((A, ([], ['--book'])), (A_3, ([], ['--record']))):
+        for content, forms in ((A, ([], ['--book'])), (A_3, ([], ['--record'])), (TABLE, (['--table'],))):
             source = self.file('source', content)
             for form in forms:
                 self.expect(run('check', *form, source), 0, b'accepted\n')
@@ -137,6 +159,8 @@ class Verbs(Folder):
         self.expect_reason(run('check', '--book', '-', data=A_3), 2)
         self.expect_reason(run('check', '--book', '-'), 2)
         self.expect_reason(run('check', '-', data=b'no book'), 2)
+        self.expect_reason(run('check', '-', data=TABLE), 2)
+        self.expect_reason(run('check', '--table', '-', data=A), 2)
 
     def test_examples(self):
         """The books of the folder examples, with the tours that they stand for."""
@@ -151,6 +175,14 @@ class Verbs(Folder):
         with open(path, 'rb') as f:
             short = b''.join(line for line in f if not line.lstrip().startswith(b'stop'))
         self.expect(run('-', '4', data=short), 0, page)
+
+    def test_two_states(self):
+        """The example of source document 001, whose answer is a12 with a reward of 10, or 100 over D^H = 10; and its list as a record."""
+        path = os.path.join(ROOT, 'examples', 'two_states.txt')
+        self.expect(run('rewards', path, '3'), 0, b'2 of 3, scale 10\n1 100 1 - 0\n2 50 0 0 0\n')
+        self.expect(run('convert', path, '-o', self.path('book')), 0, b'')
+        self.expect(run('file', self.path('book'), '3', '-o', self.path('record')), 0, b'')
+        self.expect(run('page', self.path('record')), 0, b'2 of 3, scale 10\n1 -100 1 - 0\n2 -50 0 0 0\n')
 
     def test_help(self):
         for words in (['-h'], ['--help'], ['file', '-h']):
@@ -198,6 +230,27 @@ class RoundTrips(Folder):
     def test_random_books(self):
         for words, k in accepted_books(8):
             self.round_trip(words, k)
+
+    def test_random_tables(self):
+        """The page of a table has the rewards of its own policies; the book has the costs."""
+        rng, signs = random.Random('rewards'), set()
+        for shape in tables.GOOD[:7] + [tables.unused]:
+            words = tables.draw(rng, shape)
+            k = kinds.some_count(rng, len(ref.in_order(tuple(rewards.book_of(words)))))
+            given = table.text_of_words(words).encode()
+            page = reward_page(words, k)
+            self.expect(run('rewards', '-', str(k), data=given), 0, page)
+            self.expect(run('convert', '-', '-o', self.path('book'), data=given), 0, b'')
+            self.assertEqual(self.content('book'), text(rewards.book_of(words)))
+            self.expect(run('print', self.path('book'), str(k)), 0, ref.page(k.to_bytes(4, 'little') + book.bytes_of_words(rewards.book_of(words))))
+            self.expect(run('check', '--table', '-', data=given), 0, b'accepted\n')
+            signs.update(line.split()[1][0] == '-' for line in page.decode().splitlines()[1:])
+        self.assertEqual(signs, {True, False})
+
+    def test_reward_of_0(self):
+        """It has no sign."""
+        words = tables.build(2, 1, 0, [[(0, [(0, 2)]), (3, [(0, 2)]), (-3, [(0, 2)])]], [0])
+        self.expect(run('rewards', '-', '3', data=table.text_of_words(words).encode()), 0, b'3 of 3, scale 2\n1 6 1 0\n2 0 0 0\n3 -6 2 0\n')
 
     def test_rows(self):
         """Six next posts; seven, which have a text form too, get 9, and so does the record that was written for them while they were allowed."""
@@ -255,6 +308,23 @@ class Refusals(Folder):
                 self.expect(run('page', self.path('source')), 1, b'refused %d\n' % number, reason(number))
 
 
+    def test_tables(self):
+        """Every number that converting can give, and of a count 14."""
+        rng, found = random.Random('refusals'), {}
+        for shape in tables.REFUSED + [tables.edge] * 9:
+            words = shape(rng)
+            found.setdefault(rewards.convert(words, [0] * rewards.LONGEST_MADE)[0], words)
+        found[25], found[26] = BY_HAND[:-1], BY_HAND[:-1] + [100001]
+        self.assertEqual(set(found), {0, 4, 6, 9, 11, 12, 13, 25, 26})
+        for number in sorted({*found} - {0}):
+            with self.subTest(number=number):
+                self.file('source', table.text_of_words(found[number]).encode())
+                for words in (['rewards', self.path('source'), '65'], ['convert', self.path('source')], ['check', '--table', self.path('source')]):
+                    self.expect(run(*words), 1, b'refused %d\n' % number, reason(number))
+        self.each_verb(self.path('source'), number, ('rewards', '3'), ('convert',))
+        self.each_verb(self.file('source', TABLE), 14, ('rewards', '0'), ('rewards', '65'))
+
+
 class Wrong(Folder):
     """Status 2: nothing on standard output, a reason on standard error, and no file."""
 
@@ -263,21 +333,22 @@ class Wrong(Folder):
 
     def test_commands(self):
         for words in ([], ['-'], ['print', '-'], ['print'], ['file', '-'], ['page'], ['check'], ['page', '-', '3'], ['print', '-', '3', '4'],
-                      ['unknown', '-', '3'], ['check', '--page', '-'], ['check', '--book', '--record', '-'], ['check', '-', '-o', 'x'],
+                      ['unknown', '-', '3'], ['rewards', '-'], ['rewards', '-', '3', '4'], ['convert', '-', '3'], ['convert'],
+                      ['check', '--book', '--table', '-'], ['check', '--page', '-'], ['check', '--book', '--record', '-'], ['check', '-', '-o', 'x'],
                       ['print', '-', '3', '-o'], ['-x', '-', '3']):
             with self.subTest(words=words):
                 self.wrong(*words)
 
     def test_counts(self):
-        for verb, count in (('print', '-1'), ('file', '-1'), ('print', 'three'), ('print', '3.0'), ('print', ''), ('print', '+3'), ('print', '4294967296'),
-                            ('file', '4294967296'), ('print', '9' * 5000)):
+        for verb, count in (('print', '-1'), ('file', '-1'), ('rewards', '-1'), ('print', 'three'), ('print', '3.0'), ('print', ''), ('print', '+3'),
+                            ('print', '4294967296'), ('file', '4294967296'), ('rewards', '4294967296'), ('print', '9' * 5000)):
             with self.subTest(verb=verb, count=count[:20]):
                 self.wrong(verb, '-', count, '-o', self.path('none'))
         self.assertEqual(os.listdir(self.folder), [])
 
     def test_files(self):
         for path in (self.path('none'), self.folder, ''):
-            for words in (['file', path, '3'], ['page', path], ['check', path], [path, '3']):
+            for words in (['file', path, '3'], ['page', path], ['rewards', path, '3'], ['convert', path], ['check', path], [path, '3']):
                 with self.subTest(words=words):
                     self.wrong(*words)
 
@@ -293,10 +364,18 @@ class Wrong(Folder):
                     self.wrong(verb, '-', '3', '-o', self.path('none'), data=data)
         self.assertEqual(os.listdir(self.folder), [])
 
+    def test_texts_of_tables(self):
+        for data in (b'', A, b'scale 2\n\xff', A_3, TABLE[:-1] + b'x', TABLE + b'words 1\n', TABLE[:TABLE.index(b'closing')]):
+            for verb, *more in (('rewards', '3'), ('convert',)):
+                with self.subTest(verb=verb, data=data[:20]):
+                    self.wrong(verb, '-', *more, '-o', self.path('none'), data=data)
+        self.assertEqual(os.listdir(self.folder), [])
+
     def test_line_is_named(self):
         self.assertIn(b'-: line 2: unknown word "place"', run('-', '3', data=b'scale 2\nplace 0\n').stderr)
         more = A.replace(b'choice 1 cost 12\n', b'choice 1 cost 12\nstop weight 1\n')
         self.assertIn(b'-: line 9: a line "stop" where no part is missing', run('-', '3', data=more).stderr)
+        self.assertIn(b'-: line 7: unknown word "place"', run('rewards', '-', '3', data=TABLE.replace(b'next 0 weight 2', b'place 0', 1)).stderr)
 
     def test_record_to_terminal(self):
         """Only a file, or what is no terminal, can take a record."""
@@ -307,7 +386,7 @@ class Wrong(Folder):
         self.assertIn(b'-o', why)
 
     def test_result_over_source(self):
-        for words, content in ((['print', self.path('source'), '3'], A), (['page', self.path('source')], A_3)):
+        for words, content in ((['print', self.path('source'), '3'], A), (['page', self.path('source')], A_3), (['convert', self.path('source')], TABLE)):
             self.file('source', content)
             self.wrong(*words, '-o', self.path('source'))
             self.assertEqual(self.content('source'), content)
@@ -425,8 +504,9 @@ class Written(Folder):
 
 # ---- the first run, with an acted toolchain
 
-CRATES = '# a comment: not a crate\nlaws:\npage: laws io    # io is a library\nother: laws\n\nkbest: page io\nkbest_file: page io\nkbest_page: page io\n'
-NEEDED = 'laws', 'page', 'kbest', 'kbest_file', 'kbest_page'
+CRATES = '# a comment: not a crate\nlaws:\npage: laws io    # io is a library\nother: laws\n\nkbest: page io\nkbest_file: page io\nkbest_page: page io\n\
+kbest_table: laws io\n'
+NEEDED = 'laws', 'page', 'kbest', 'kbest_file', 'kbest_page', 'kbest_table'
 PROGRAM = '#!/bin/sh\ncat >/dev/null\necho made\n'
 RT = '''#!/bin/sh
 echo "$*" >>calls
@@ -457,7 +537,7 @@ class FirstRun(Folder):
 
     def setUp(self):
         super().setUp()
-        for name in ('kbest', 'tools/book.py', 'bindings/python/kbest.py'):
+        for name in ('kbest', 'tools/book.py', 'tools/table.py', 'bindings/python/kbest.py'):
             os.makedirs(os.path.dirname(self.path(name)), exist_ok=True)
             shutil.copy(os.path.join(ROOT, name), self.path(name))
         for name in NEEDED + ('other',):
@@ -491,30 +571,30 @@ class FirstRun(Folder):
     def test_silent_and_once(self):
         self.made()
         self.made()
-        self.assertEqual(self.calls(), ['check kbest kbest_file kbest_page'])
+        self.assertEqual(self.calls(), ['check kbest kbest_file kbest_page kbest_table'])
         self.assertIn(b'logic=proved', self.content('target/kbest.log'))
 
     def test_each_program(self):
-        for words in (['print', '-', '3'], ['file', '-', '3'], ['page', '-']):
-            self.expect(run(*words, data=A, **self.how()), 0, b'made\n')
+        for words, data in ((['print', '-', '3'], A), (['file', '-', '3'], A), (['page', '-'], A), (['rewards', '-', '3'], TABLE)):
+            self.expect(run(*words, data=data, **self.how()), 0, b'made\n')
 
     def test_terminal(self):
         shown, status, out = on_terminal(['stderr'], ['-', '3'], data=A, **self.how())
         self.assertEqual((status, out), (0, b'made\n'))
         said = b'proving and building the programs (some minutes, once): '
-        self.assertEqual(shown, b''.join(b'\r' + said + b'%d of 5 crates' % n for n in range(6)) + b'\r\n')
+        self.assertEqual(shown, b''.join(b'\r' + said + b'%d of 6 crates' % n for n in range(7)) + b'\r\n')
         self.assertEqual(on_terminal(['stderr'], ['-', '3'], data=A, **self.how()), (b'', 0, b'made\n'))
 
     def test_unchanged_crates_count(self):
         self.made()
         self.later('crates/page/src/lib.rt', -1)
         os.remove(self.path('target/kbest.stamp'))
-        for name in ('kbest', 'kbest_file', 'kbest_page'):
+        for name in ('kbest', 'kbest_file', 'kbest_page', 'kbest_table'):
             self.later('target/bin/' + name, -60)
         shown, status, _ = on_terminal(['stderr'], ['-', '3'], data=A, **self.how())
         self.assertEqual(status, 0)
         self.assertIn(b'unchanged', self.content('target/kbest.log'))
-        self.assertTrue(shown.endswith(b': 5 of 5 crates\r\n'))
+        self.assertTrue(shown.endswith(b': 6 of 6 crates\r\n'))
         self.made()
         self.assertEqual(len(self.calls()), 2)
 
@@ -560,7 +640,7 @@ class FirstRun(Folder):
             shown, status, out = on_terminal(['stderr'], ['-', '3'], data=A, **self.how(act))
             self.assertEqual((status, out), (3, b''))
             self.assertIn(why, shown)
-            self.assertIn(b'%d of 5 crates\r\n' % (act == 'fail'), shown)
+            self.assertIn(b'%d of 6 crates\r\n' % (act == 'fail'), shown)
         self.assertFalse(os.path.exists(self.path('page')))
         self.made()
 
@@ -597,6 +677,8 @@ class FirstRun(Folder):
                 self.expect_reason(run('check', '-', data=A, **self.how()), 3)
         self.file('target/bin/kbest', b'no program')
         self.expect_reason(run('-', '3', data=A, **self.how()), 3)
+        for words in (['rewards', '-', '3'], ['convert', '-']):    # the program for the list fails; what the program for tables writes is no book
+            self.expect_reason(run(*words, '-o', self.path('page'), data=TABLE, **self.how()), 3)
         self.assertFalse(os.path.exists(self.path('page')))
 
     def interrupted(self, number, waits, words, act=''):

@@ -1,5 +1,5 @@
 #!/usr/bin/env python3
-"""The stored input and output of the three programs are those that programs.py makes, and reference.py gives one page for a book and for its record. Run:
+"""The stored input and output of the four programs are those that programs.py makes, and reference.py gives one page for a book and for its record. Run:
 python3 tests/test_programs.py"""
 
 import os
@@ -13,6 +13,7 @@ sys.path[:0] = [HERE]
 import kinds
 import programs
 import reference as ref
+import rewards
 import search
 import tours
 
@@ -32,9 +33,10 @@ class Stored(unittest.TestCase):
 
     def test_lengths(self):
         """One byte more than is read, or as much as is read, and what is one word or one byte shorter is accepted: the stored input finds the bounds."""
-        self.assertEqual({name: len(data) for name, (data, _) in self.stored.items()}, {'kbest': 16697, 'kbest_file': 16697, 'kbest_page': 21309})
+        self.assertEqual({name: len(data) for name, (data, _) in self.stored.items()}, {'kbest': 16697, 'kbest_file': 16697, 'kbest_page': 21309,
+                                                                                             'kbest_table': 16473})
         with search.instead_of_enumeration():
-            for name, short in (('kbest', 16692), ('kbest_file', 16692), ('kbest_page', 21308)):
+            for name, short in (('kbest', 16692), ('kbest_file', 16692), ('kbest_page', 21308), ('kbest_table', 16468)):
                 data, out = self.stored[name]
                 self.assertTrue(out.startswith(REFUSED))
                 self.assertFalse(programs.PROGRAMS[name][0](data[:short]).startswith(REFUSED))
@@ -60,7 +62,8 @@ class Same(unittest.TestCase):
     def test_numbers(self):
         """The random inputs find every number that a program can give, and an answer that is no refusal."""
         book = {*range(1, 15)}
-        for draw, answer, numbers in ((kinds.page_input, ref.page, book), (kinds.record_input, ref.record_page, book | {19, 20, 21})):
+        for draw, answer, numbers in ((kinds.page_input, ref.page, book), (kinds.record_input, ref.record_page, book | {19, 20, 21}),
+                                      (kinds.table_input, rewards.table_book, {4, 6, 9, 11, 12, 13, 25, 26})):
             rng = random.Random('numbers')
             found = {answer(draw(rng)) for _ in range(1200)}
             self.assertEqual({int(out.split()[1]) for out in found if out.startswith(REFUSED)}, numbers)

@@ -11,7 +11,8 @@
 //  c  checks the book                       s  shows policy k of the part
 //  r  ranks k policies into z costs         b  shows it through a browser
 //     and the part                          p  prints the page of the part
-//  w  writes their record into the part
+//  w  writes their record into the part     x  converts the book, as a planners'
+//                                              table, into the words of the part
 //
 // At the desk the part has numbers of eight bytes, 0 where they are missing: the rider and the rank.
 //
@@ -19,7 +20,7 @@
 //  h  asks for the rank for the rider       n  cancels for the rider
 //  f  fills the desk: bytes of k, of the ranks held and of the ranks committed
 //
-// A call prints its letter, then its number and two figures, 0 where it has none, and all that the lent slices hold after it (for w the z costs too);
+// A call prints its letter, then its number and two figures, 0 where it has none, and all that the lent slices hold after it (for w and x the z costs too);
 // s and b print the bytes that they show. The figures of a call at the desk are the ranks that the rider holds and has committed to; k and all ranks
 // follow.
 ghost use Prim.Native.Nat.{_<_, _≤_};
@@ -126,10 +127,39 @@ fn ask(h: Head, b: &[i32], part: &[u8]) -> [i64; 3] {
     [0, figure(power::power(h.k, h.z as usize) as usize), 0]
 }
 
+// Reads the words of the part, as many as there is room for; gives how many.
+fn words_of(part: &[u8], words: &mut [i32]) -> usize {
+    let n = lesser(part.len() / 4, words.len());
+    bytes_io::read_words(part, 0, n, words);
+    n
+}
+
+fn put_back(words: &[i32], out: &mut [u8]) {
+    let n = lesser(words.len(), out.len() / 4);
+    bytes_io::write_words(out, 0, &words[0..n]);
+}
+
+fn convert_words(b: &[i32], words: &mut [i32], out: &mut [u8]) -> [i64; 3] {
+    let c = convert::convert(b, words);
+    put_back(words, out);
+    [c.no as i64, figure(c.length), 0]
+}
+
+// Whole words are lent and put back, 5,400 at most; bytes after them stay.
+fn convert_part(b: &[i32], out: &mut [u8]) -> [i64; 3] {
+    let mut words = [0i32; 5400];
+    let n = words_of(out, &mut words);
+    let end = lesser(n, words.len());
+    convert_words(b, &mut words[0..end], out)
+}
+
 fn lend(h: Head, b: &[i32], costs: &mut [i64], out: &mut [u8]) -> [i64; 3] {
     if h.kind == b'r' {
         let r = rank::rank(b, h.k, costs, out);
         return [r.no as i64, figure(r.k), 0];
+    }
+    if h.kind == b'x' {
+        return convert_part(b, out);
     }
     let w = write::write(b, h.k, out);
     [w.no as i64, figure(w.length), 0]
@@ -254,12 +284,6 @@ fn serve_part(h: Head, desk: Desk, bytes: &[u8]) -> Desk {
 
 // ---- commands
 
-fn book_of(part: &[u8], words: &mut [i32]) -> usize {
-    let n = lesser(part.len() / 4, words.len());
-    bytes_io::read_words(part, 0, n, words);
-    n
-}
-
 fn read(h: Head, part: &mut [u8]) {
     io::read_full(0, part);
     if h.kind == b't' {
@@ -270,7 +294,7 @@ fn read(h: Head, part: &mut [u8]) {
 fn call(h: Head, b: &[i32], part: &mut [u8]) {
     if h.kind == b'i' || h.kind == b't' {
         read(h, part);
-    } else if h.kind == b'r' || h.kind == b'w' {
+    } else if h.kind == b'r' || h.kind == b'w' || h.kind == b'x' {
         run_lent(h, b, part);
     } else if h.kind == b's' || h.kind == b'b' || h.kind == b'p' {
         print_part(h, part);
@@ -288,7 +312,7 @@ fn call_part(h: Head, n: usize, words: &[i32], part: &mut [u8]) {
 // Gives how many words are then in use.
 fn act(h: Head, n: usize, words: &mut [i32], part: &mut [u8]) -> usize {
     if h.kind == b'm' {
-        return book_of(part, words);
+        return words_of(part, words);
     }
     call_part(h, n, words, part);
     n
