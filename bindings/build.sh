@@ -31,11 +31,13 @@ rust_program() { # FOLDER/NAME
 }
 c_program example
 c_program monday
+c_program planners
 c_program test_tables
 c_program test_null
 rustc --edition 2021 -O -D warnings --crate-type rlib --crate-name kbest bindings/rust/src/lib.rs -L native=target/staticlib --out-dir "$out"
 rust_program examples/example
 rust_program examples/monday
+rust_program examples/planners
 rust_program tests/tables
 gcc -shared -Wl,--whole-archive "$archive" -Wl,--no-whole-archive -o "$out/libkbest.so"
 
@@ -80,16 +82,18 @@ example c "$out/c_example"
 example rust "$out/rust_example"
 example python python3 bindings/python/example.py
 
-monday() { # NAME COMMAND..: what two dispatchers at a desk get
-    name=$1
-    shift
-    "$@" >"$out/${name}_monday.out" || die "$name: the example of a desk failed"
-    same bindings/expected_monday.txt "$out/${name}_monday.out" "$name: not what bindings/expected_monday.txt has"
+prints() { # EXAMPLE NAME COMMAND..: what expected_EXAMPLE.txt has
+    example=$1 name=$2
+    shift 2
+    "$@" >"$out/${name}_$example.out" || die "$name: the example $example failed"
+    same "bindings/expected_$example.txt" "$out/${name}_$example.out" "$name: not what bindings/expected_$example.txt has"
 }
-monday c "$out/c_monday"
-monday rust "$out/rust_monday"
-monday python python3 bindings/python/monday.py
-echo "two dispatchers at a desk get the same answers in all languages"
+for example in monday planners; do
+    prints "$example" c "$out/c_$example"
+    prints "$example" rust "$out/rust_$example"
+    prints "$example" python python3 "bindings/python/$example.py"
+done
+echo "two dispatchers at a desk, and planners with a table, get the same answers in all languages"
 
 "$out/c_test_null"
 python3 bindings/python/test_random.py

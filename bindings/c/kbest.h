@@ -5,6 +5,8 @@
  * stops after that choice: the day then costs the choices made so far. A choice without next posts before stage H is a sure stop.
  * A plan has one byte for each of the book's S posts: the choice of a reached post, 255 for any other.
  * Costs are exact and stand over D^H: divide by kbest_power(D, H) for the expected total cost.
+ * A planners' table is an array of the same kind: D, H, n, the first state, L, the choices of each of the n states, then the left and the right column, the
+ * last n lines closing ones. It has rewards, to be raised, and the same states and choices at every stage; kbest_convert makes a book of it.
  *
  * Every call takes any array of any length, any count and any desk. Each array crosses as a pointer and its number of elements.
  * A call gives 0, or the number of the first question that is answered no. A refusal sets every figure to 0 and leaves every lent array and the desk
@@ -25,8 +27,8 @@ extern "C" {
 #endif
 
 /* The version of this header, as text and as a number: the first x 10,000 + the second x 100 + the third. */
-#define KBEST_VERSION_TEXT "1.3.0"
-#define KBEST_VERSION 10300
+#define KBEST_VERSION_TEXT "1.4.0"
+#define KBEST_VERSION 10400
 
 /* The version of the library that is linked, as a number. */
 uint32_t kbest_version(void);
@@ -36,6 +38,10 @@ uint32_t kbest_version(void);
 #define KBEST_POSTS_MOST 64
 #define KBEST_PLANS_MOST 64
 #define KBEST_RECORD_MOST 21308
+
+/* The longest planners' table in words, and the longest book that a table can give: one of more than KBEST_BOOK_MOST words is always refused. */
+#define KBEST_TABLE_MOST 4117
+#define KBEST_TABLE_BOOK_MOST 32775
 
 /* How many riders a desk has: they are 0 to 15. */
 #define KBEST_RIDERS 16
@@ -69,7 +75,10 @@ enum {
     KBEST_RECORD_LIST = 21,
     KBEST_RIDER = 22,
     KBEST_RANK = 23,
-    KBEST_RESERVED = 24
+    KBEST_RESERVED = 24,
+    KBEST_TABLE_SIZES = 25,
+    KBEST_TABLE_LINES = 26,
+    KBEST_BOOK_ROOM = 27
 };
 
 /* The questions, in order; each is put to the whole input before the next. Any other number gives an empty text. */
@@ -100,6 +109,13 @@ static inline const char *kbest_question(uint32_t number) {
     case KBEST_RANK: return "does the record list the rank?";
     case KBEST_RESERVED:
         return "on asking, is the rank with no other rider and the asker not yet committed; on committing, is a rank held?";
+    case KBEST_TABLE_SIZES:
+        return "are there five sizes, is n from 1 to 16, the first state from 0 to n - 1, D from 1 to 100, H from 1 to 8 and L from 1 to 2,048, "
+               "and is the length exactly 5 + n + 2L words?";
+    case KBEST_TABLE_LINES:
+        return "has each state 1 to 8 choices, is every r at least 1, do all lines fit, are exactly L used, do the weights of each choice add to D, "
+               "has each closing line its 0, and is every reward from -100,000 to 100,000?";
+    case KBEST_BOOK_ROOM: return "does the lent array hold the book?";
     default: return "";
     }
 }
@@ -129,6 +145,12 @@ uint32_t kbest_accept(const uint8_t *record, size_t bytes, size_t *posts, size_t
 
 /* Where plan j of a record lies: *length bytes from record + *offset. Both are 0 where the record is not accepted or lists no plan j. */
 void kbest_show(const uint8_t *record, size_t bytes, size_t j, size_t *offset, size_t *length);
+
+/* Writes the book of a planners' table to the front of `book`: questions 25 to 27, then 1 to 13 of the book. *length is the book's length in words. Its
+ * plans are the table's policies: a byte for the first state, then one for each of the n states of every later stage; the cost of each is minus its
+ * expected total reward, over D^H. KBEST_BOOK_MOST words hold every book that is accepted; with fewer than KBEST_TABLE_BOOK_MOST a table whose book is
+ * too long gets 27, and else the number of the book. */
+uint32_t kbest_convert(const int32_t *table, size_t words, int32_t *book, size_t room, size_t *length);
 
 /* A desk: which rank of one accepted record is whose. It lies in the caller's memory, starts as kbest_desk_fresh gives it, and only the calls below
  * change it. k is how many plans the record lists, 0 before one is opened; held and committed have a rank for each rider, 0 for none. Rank 1 is the

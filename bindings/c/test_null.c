@@ -11,9 +11,12 @@
 static const int32_t BOOK[] = {2, 1, 7, 1, 2, 2, 1, 1, 2, 0, 1, 1, 0, 0, 0, 10, 1, 1, 12, 2, 4, 9};
 #define WORDS (sizeof BOOK / sizeof BOOK[0])
 static const uint8_t PLAN[] = {1, 0, KBEST_NOT_REACHED};
+static const int32_t TABLE[] = {2, 1, 1, 0, 3, 1, 1, 0, 0, 5, 2, 4};
+#define TABLE_WORDS (sizeof TABLE / sizeof TABLE[0])
 
 /* What is lent beside an empty array has room enough. */
 static int64_t costs[ASKED];
+static int32_t words[50];
 static uint8_t bytes[200];
 static kbest_desk desk;
 
@@ -27,6 +30,9 @@ static int calls, faults;
 static int untouched(void) {
     for (size_t i = 0; i < ASKED; i++)
         if (costs[i] != BEFORE)
+            return 0;
+    for (size_t i = 0; i < sizeof words / sizeof words[0]; i++)
+        if (words[i] != BEFORE)
             return 0;
     for (size_t i = 0; i < sizeof bytes; i++)
         if (bytes[i] != BEFORE)
@@ -65,6 +71,9 @@ static void ask(void *empty) {
     same("accept", TWO, kbest_accept(empty, 0, &first, &second), KBEST_RECORD_HEAD);
     kbest_show(empty, 0, 0, &first, &second);
     same("show", TWO, 0, 0);
+    same("convert of no table", ONE, kbest_convert(empty, 0, words, sizeof words / sizeof words[0], &first), KBEST_TABLE_SIZES);
+    same("convert without room", ONE, kbest_convert(TABLE, TABLE_WORDS, empty, 0, &first), KBEST_BOOK_ROOM);
+    same("convert of nothing", ONE, kbest_convert(empty, 0, empty, 0, &first), KBEST_TABLE_SIZES);
     same("open", NONE, kbest_desk_open(&desk, empty, 0), KBEST_RECORD_HEAD);
 }
 
@@ -72,6 +81,8 @@ int main(void) {
     static int64_t place;
     for (size_t i = 0; i < ASKED; i++)
         costs[i] = BEFORE;
+    for (size_t i = 0; i < sizeof words / sizeof words[0]; i++)
+        words[i] = BEFORE;
     memset(bytes, BEFORE, sizeof bytes);
     desk.k = BEFORE;
     for (size_t rider = 0; rider < KBEST_RIDERS; rider++)

@@ -1,8 +1,9 @@
 """The K best plans of a tour book, over the shared library that is linked from libkbest_c.a.
 
-A book is a sequence of 32-bit words, a plan and a record are bytes. Costs are exact and stand over D^H. Where the weights of a choice before the last
-stage add to less than D, the tour may stop after it: what is missing is the chance, over D. A refusal raises Refused, which has the number and the text
-of the first question that is answered no. The first call loads the library: KBEST_LIBRARY names it; else it is looked for where the build puts it.
+A book is a sequence of 32-bit words, as is a planners' table; a plan and a record are bytes. Costs are exact and stand over D^H. Where the weights of a
+choice before the last stage add to less than D, the tour may stop after it: what is missing is the chance, over D. A refusal raises Refused, which has the
+number and the text of the first question that is answered no. The first call loads the library: KBEST_LIBRARY names it; else it is looked for where the build
+puts it.
 """
 
 import ctypes
@@ -12,13 +13,15 @@ import pathlib
 import threading
 
 # of this module, as text and as the number that version() gives of the library
-VERSION_TEXT = '1.3.0'
-VERSION = 10300
+VERSION_TEXT = '1.4.0'
+VERSION = 10400
 
 BOOK_MOST = 4172
 POSTS_MOST = 64
 PLANS_MOST = 64
 RECORD_MOST = 21308
+TABLE_MOST = 4117
+TABLE_BOOK_MOST = 32775    # words of the longest book that a table can give: one of more than BOOK_MOST is always refused
 RIDERS = 16
 NOT_REACHED = 255
 
@@ -48,6 +51,11 @@ QUESTIONS = {
     22: 'is the rider from 0 to 15?',
     23: 'does the record list the rank?',
     24: 'on asking, is the rank with no other rider and the asker not yet committed; on committing, is a rank held?',
+    25: 'are there five sizes, is n from 1 to 16, the first state from 0 to n - 1, D from 1 to 100, H from 1 to 8 and L from 1 to 2,048, '
+        'and is the length exactly 5 + n + 2L words?',
+    26: 'has each state 1 to 8 choices, is every r at least 1, do all lines fit, are exactly L used, do the weights of each choice add to D, '
+        'has each closing line its 0, and is every reward from -100,000 to 100,000?',
+    27: 'does the lent array hold the book?',
 }
 
 
@@ -85,6 +93,7 @@ def _library():
         ('write', number, (words, size, size, data, size, figure)),
         ('accept', number, (data, size, figure, figure)),
         ('show', None, (data, size, size, figure, figure)),
+        ('convert', number, (words, size, words, size, figure)),
         ('desk_fresh', _Desk, ()),
         ('desk_open', number, (desk, data, size)),
         ('desk_ask', number, (desk, size, size)),
@@ -194,6 +203,14 @@ def show(record, j):
     offset, length = ctypes.c_size_t(), ctypes.c_size_t()
     _library().kbest_show(*_bytes(record), _size(j), ctypes.byref(offset), ctypes.byref(length))
     return memoryview(record)[offset.value:offset.value + length.value]
+
+
+def convert(table):
+    """The book of a planners' table, as a list of words: questions 25 and 26, then 1 to 13 of the book. Its plans are the table's policies: a byte for the
+    first state, then one for each of the n states of every later stage; the cost of each is minus its expected total reward, over D^H."""
+    book, length = (ctypes.c_int32 * TABLE_BOOK_MOST)(), ctypes.c_size_t()
+    no = _library().kbest_convert(*_words(table), book, len(book), ctypes.byref(length))
+    return _answer(no, book[:length.value])
 
 
 class Desk:

@@ -1,7 +1,7 @@
-"""Random cases of tests/kinds.py, every call of them put to the library and to the rules of document 01 by enumeration: all must agree.
+"""Random cases of tests/kinds.py, every call of them put to the library and to the rules of the documents by enumeration: all must agree.
 
-The cases are accepted books of many shapes, books with a fault for each question, words that are none, plans and records with a fault, and counts
-and rooms at their limits. Each call must have given every number that it can give, so that no question goes untried.
+The cases are accepted books of many shapes, books with a fault for each question, words that are none, plans and records with a fault, planners' tables, and
+counts and rooms at their limits. Each call must have given every number that it can give, so that no question goes untried.
 """
 
 import ctypes
@@ -15,10 +15,11 @@ import kbest
 import kinds
 import machine
 import reference
-from test_cases import NUMBERS
+import rewards
+from test_cases import NUMBERS, OF_TABLES
 
 SEED = 'bindings'
-MANY, FEW = 18, 2    # cases of each kind
+MANY, FEW, TABLES = 18, 2, 150    # cases of each kind, of a slow one, of tables
 SLOW = ('many', 'large', 'full', 'stops_many', 'stops_large', 'stops_full')
 
 
@@ -58,6 +59,13 @@ def write_into(words, k, room):
     book, record, length = lent(ctypes.c_int32, words), lent(ctypes.c_uint8, room), ctypes.c_size_t(99)
     no = kbest._library().kbest_write(book, len(book), k, record, len(record), ctypes.byref(length))
     return no, length.value, bytes(record)
+
+
+def convert_into(table, room):
+    """The call itself, with a lent array: (number, length, words) as it leaves them."""
+    words, book, length = lent(ctypes.c_int32, table), lent(ctypes.c_int32, room), ctypes.c_size_t(99)
+    no = kbest._library().kbest_convert(words, len(words), book, len(book), ctypes.byref(length))
+    return no, length.value, list(book)
 
 
 class Compared(machine.Machine):
@@ -104,6 +112,17 @@ class Compared(machine.Machine):
         same('write', answer(kbest.write, self.words, c.k), wanted(no, b'' if no else reference.record(self.words, c.k)))
         self.bytes[c.x:c.y] = record
 
+    def convert(self, c, part):
+        room = reference.words_of(part)
+        book = list(room)
+        no, length = rewards.convert(self.words, book)
+        self.seen['convert'].add(no)
+        same('convert', convert_into(self.words, room), (no, length, book))
+        book_of_any_length = [0] * rewards.LONGEST_MADE
+        no, length = rewards.convert(self.words, book_of_any_length)
+        same('convert', answer(kbest.convert, self.words), wanted(no, book_of_any_length[:length]))
+        self.bytes[c.x:c.x + 4 * len(book)] = machine.book_bytes(book)
+
     def accept(self, c, part):
         no, posts, listed = reference.accept(part)
         self.seen['accept'].add(no)
@@ -132,16 +151,17 @@ def drawn():
     """Cases of every kind but pages, which are no call of the library, desks, which test_desk.py compares, and books that the reference cannot enumerate."""
     for name in kinds.KINDS:
         if name not in ('page', 'desk', 'vast'):
-            for n in range(FEW if name in SLOW else MANY):
+            for n in range(FEW if name in SLOW else TABLES if name == 'convert' else MANY):
                 yield kinds.make(SEED, n, name)
 
 
 def main():
-    seen, cases = {name: set() for name in NUMBERS}, 0
+    numbers = {**NUMBERS, **OF_TABLES}
+    seen, cases = {name: set() for name in numbers}, 0
     for case in drawn():
         compare(case, seen)
         cases += 1
-    same('the numbers that the calls have given', seen, NUMBERS)
+    same('the numbers that the calls have given', seen, numbers)
     for d in range(103):
         for e in range(11):
             same('power', kbest.power(d, e), d ** e if 1 <= d <= 100 and e <= 8 else 0)

@@ -1,16 +1,16 @@
 //! The K best plans of a tour book: a safe wrapper of the static library `libkbest_c.a`.
 //!
-//! A book is a slice of 32-bit words, a plan one byte for each post. Costs are exact and stand over D^H. Where the weights of a choice before the last
-//! stage add to less than D, the tour may stop after it: what is missing is the chance, over D. Each call takes any slice of any length and any count;
-//! what cannot be answered is refused with the first question that is answered no. Nothing is allocated here.
+//! A book is a slice of 32-bit words, as is a planners' table; a plan has one byte for each post. Costs are exact and stand over D^H. Where the weights of a
+//! choice before the last stage add to less than D, the tour may stop after it: what is missing is the chance, over D. Each call takes any slice of any
+//! length and any count; what cannot be answered is refused with the first question that is answered no. Nothing is allocated here.
 
 use std::fmt;
 use std::num::NonZeroU32;
 
 /// The version of this wrapper as text.
-pub const VERSION_TEXT: &str = "1.3.0";
+pub const VERSION_TEXT: &str = "1.4.0";
 /// The same as a number: the first × 10,000 + the second × 100 + the third.
-pub const VERSION: u32 = 10300;
+pub const VERSION: u32 = 10400;
 
 /// The longest book in words.
 pub const BOOK_MOST: usize = 4172;
@@ -20,13 +20,17 @@ pub const POSTS_MOST: usize = 64;
 pub const PLANS_MOST: usize = 64;
 /// The longest record in bytes.
 pub const RECORD_MOST: usize = 21308;
+/// The longest planners' table in words.
+pub const TABLE_MOST: usize = 4117;
+/// The longest book in words that a table can give: one of more than `BOOK_MOST` is always refused.
+pub const TABLE_BOOK_MOST: usize = 32775;
 /// How many riders a desk has: they are 0 to 15.
 pub const RIDERS: usize = 16;
 /// The byte of a post that a plan does not reach.
 pub const NOT_REACHED: u8 = 255;
 
-/// The questions 1 to 24, in order; each is put to the whole input before the next.
-pub const QUESTIONS: [&str; 24] = [
+/// The questions 1 to 27, in order; each is put to the whole input before the next.
+pub const QUESTIONS: [&str; 27] = [
     "are there three words?",
     "is D from 1 to 100?",
     "is H from 1 to 8?",
@@ -51,6 +55,11 @@ pub const QUESTIONS: [&str; 24] = [
     "is the rider from 0 to 15?",
     "does the record list the rank?",
     "on asking, is the rank with no other rider and the asker not yet committed; on committing, is a rank held?",
+    "are there five sizes, is n from 1 to 16, the first state from 0 to n - 1, D from 1 to 100, H from 1 to 8 and L from 1 to 2,048, \
+     and is the length exactly 5 + n + 2L words?",
+    "has each state 1 to 8 choices, is every r at least 1, do all lines fit, are exactly L used, do the weights of each choice add to D, \
+     has each closing line its 0, and is every reward from -100,000 to 100,000?",
+    "does the lent array hold the book?",
 ];
 
 mod c {
@@ -76,6 +85,7 @@ mod c {
         pub fn kbest_write(book: *const i32, words: usize, k: usize, record: *mut u8, room: usize, length: *mut usize) -> u32;
         pub fn kbest_accept(record: *const u8, bytes: usize, posts: *mut usize, listed: *mut usize) -> u32;
         pub fn kbest_show(record: *const u8, bytes: usize, j: usize, offset: *mut usize, length: *mut usize);
+        pub fn kbest_convert(table: *const i32, words: usize, book: *mut i32, room: usize, length: *mut usize) -> u32;
         pub fn kbest_desk_fresh() -> Desk;
         pub fn kbest_desk_open(desk: *mut Desk, record: *const u8, bytes: usize) -> u32;
         pub fn kbest_desk_ask(desk: *mut Desk, rider: usize, rank: usize) -> u32;
@@ -91,7 +101,7 @@ mod c {
 pub struct Refused(NonZeroU32);
 
 impl Refused {
-    /// From 1 to 24.
+    /// From 1 to 27.
     pub fn number(self) -> u32 {
         self.0.get()
     }
@@ -206,6 +216,16 @@ pub fn show(record: &[u8], j: usize) -> &[u8] {
     let (mut offset, mut length) = (0, 0);
     unsafe { c::kbest_show(record.as_ptr(), record.len(), j, &mut offset, &mut length) };
     &record[offset..offset + length]
+}
+
+/// Writes the book of a planners' table to the front of the slice and gives its length in words: questions 25 to 27, then 1 to 13 of the book. Its plans are
+/// the table's policies: a byte for the first state, then one for each of the n states of every later stage; the cost of each is minus its expected total
+/// reward, over D^H. `BOOK_MOST` words hold every book that is accepted; with fewer than `TABLE_BOOK_MOST` a table whose book is too long gets 27, and else
+/// the number of the book.
+pub fn convert(table: &[i32], book: &mut [i32]) -> Result<usize, Refused> {
+    let mut length = 0;
+    let no = unsafe { c::kbest_convert(table.as_ptr(), table.len(), book.as_mut_ptr(), book.len(), &mut length) };
+    answer(no, length)
 }
 
 /// What a look-up gives has 0 for no rank.
