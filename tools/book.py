@@ -14,15 +14,6 @@ import re
 import sys
 
 LOW, HIGH = -2 ** 31, 2 ** 31 - 1
-FORMS = {
-    'scale': 'scale NUMBER',
-    'stage': 'stage NUMBER',
-    'post': 'post NUMBER',
-    'choice': 'choice NUMBER cost NUMBER',
-    'next': 'next NUMBER weight NUMBER',
-    'stop': 'stop weight NUMBER',
-    'words': 'words NUMBER ..',
-}
 PLACES = 12
 DIGITS = 10    # of the largest number of 32 bits
 
@@ -57,22 +48,33 @@ def number(line, text):
     return value
 
 
-def fields(line, parts):
+def fields(line, text, parts):
     """The numbers of a line, whose other words must be those of its form."""
-    form = FORMS[parts[0]].split()
+    form = text.split()
     if form[-1] == '..':
         return [number(line, part) for part in parts[1:]]
     if len(parts) != len(form) or any(a != b for a, b in zip(form, parts) if a != 'NUMBER'):
-        refuse(line, 'expected "%s"' % FORMS[parts[0]])
+        refuse(line, 'expected "%s"' % text)
     return [number(line, part) for a, part in zip(form, parts) if a == 'NUMBER']
 
 
+def columns(choices):
+    """The left and the right column of choices, each [cost or reward, [(next, weight)]]."""
+    left, right = [], []
+    for amount, nexts in choices:
+        left += [len(nexts)] + [step for step, _ in nexts]
+        right += [amount] + [weight for _, weight in nexts]
+    return left, right
+
+
 class Reader:
-    """What the lines say so far: the scale, and stages of posts of choices, each choice [cost, [(next post, weight)]]. Or plain words.
-    And the stops, each (line, stage, choice, weight): only the whole text can say whether the weight is the one due."""
+    """Takes the lines of a text. Each kind of line has a form in FORMS and a method take_; KIND is what the text says, unless it says plain words. Lines that
+    stand once and say one number of the whole are kept in `sizes`."""
+
+    KIND, FORMS, SIZES = '', {}, ()
 
     def __init__(self):
-        self.scale, self.stages, self.posts, self.words, self.stops = None, [], 0, None, []
+        self.sizes, self.begun, self.words = {}, False, None
 
     def due(self, line, name, given, count):
         if given != count:
@@ -83,23 +85,60 @@ class Reader:
             refuse(line, 'a line "%s" before the first line "%s"' % (name, outer))
         return row[-1]
 
-    def post(self, line, name):
-        return self.inner(line, name, 'post', self.inner(line, name, 'stage', self.stages))
-
     def take(self, line, parts):
         name = parts[0]
-        if name not in FORMS:
+        if name not in self.FORMS:
             refuse(line, 'unknown word "%s"' % name)
-        values = fields(line, parts)
-        begun = self.stages or self.scale is not None
-        if begun if name == 'words' else self.words is not None:
-            refuse(line, 'lines "words" stand in a book alone')
-        getattr(self, 'take_' + name)(line, *([values] if name == 'words' else values))
+        values = fields(line, self.FORMS[name], parts)
+        if self.begun if name == 'words' else self.words is not None:
+            refuse(line, 'lines "words" stand in a %s alone' % self.KIND)
+        if name == 'words':
+            self.words = (self.words or []) + values
+        elif name in self.SIZES:
+            self.take_size(line, name, *values)
+        else:
+            getattr(self, 'take_' + name)(line, *values)
+        self.begun = name != 'words'
 
-    def take_scale(self, line, value):
-        if self.scale is not None:
-            refuse(line, 'a second line "scale"')
-        self.scale = value
+    def take_size(self, line, name, value):
+        if name in self.sizes:
+            refuse(line, 'a second line "%s"' % name)
+        self.sizes[name] = value
+
+    def needs(self, line, name, given):
+        if not given:
+            refuse(line, 'the text ends without a line "%s"' % name)
+
+    def all_words(self, line):
+        """The words, once the text has ended before this line."""
+        if self.words is not None:
+            return self.words
+        for name in self.SIZES:
+            self.needs(line, name, name in self.sizes)
+        return self.made(line)
+
+
+class BookReader(Reader):
+    """What the lines say so far: stages of posts of choices, each choice [cost, [(next post, weight)]]. And the stops, each (line, stage, choice, weight): only
+    the whole text can say whether the weight is the one due."""
+
+    KIND, SIZES = 'book', ('scale',)
+    FORMS = {
+        'scale': 'scale NUMBER',
+        'stage': 'stage NUMBER',
+        'post': 'post NUMBER',
+        'choice': 'choice NUMBER cost NUMBER',
+        'next': 'next NUMBER weight NUMBER',
+        'stop': 'stop weight NUMBER',
+        'words': 'words NUMBER ..',
+    }
+
+    def __init__(self):
+        super().__init__()
+        self.stages, self.posts, self.stops = [], 0, []
+
+    def post(self, line, name):
+        return self.inner(line, name, 'post', self.inner(line, name, 'stage', self.stages))
 
     def take_stage(self, line, n):
         self.due(line, 'stage', n, len(self.stages))
@@ -125,39 +164,27 @@ class Reader:
             refuse(line, 'a second line "stop" in one choice')
         self.stops.append((line, len(self.stages) - 1, choice, weight))
 
-    def take_words(self, line, values):
-        self.words = (self.words or []) + values
-
     def check_stops(self):
+        scale = self.sizes['scale']
         for line, stage, (_, nexts), weight in self.stops:
             if stage == len(self.stages) - 1:
                 refuse(line, 'a line "stop" at the last stage')
-            part = missing(self.scale, nexts)
+            part = missing(scale, nexts)
             if part < 1:
-                refuse(line, 'a line "stop" where no part is missing: the weights add to %d, and the scale is %d' % (self.scale - part, self.scale))
+                refuse(line, 'a line "stop" where no part is missing: the weights add to %d, and the scale is %d' % (scale - part, scale))
             self.due(line, 'stop weight', weight, part)
 
-    def book(self, line):
-        """The words, once the text has ended before this line."""
-        if self.words is not None:
-            return self.words
-        if self.scale is None:
-            refuse(line, 'the text ends without a line "scale"')
-        if not self.stages:
-            refuse(line, 'the text ends without a line "stage"')
+    def made(self, line):
+        self.needs(line, 'stage', self.stages)
         self.check_stops()
         posts = [post for stage in self.stages for post in stage]
-        left, right = [], []
-        for post in posts:
-            for cost, nexts in post:
-                left += [len(nexts)] + [step for step, _ in nexts]
-                right += [cost] + [weight for _, weight in nexts]
+        left, right = columns([choice for post in posts for choice in post])
         sizes = [len(stage) for stage in self.stages]
-        return [self.scale, len(self.stages) - 1, len(left)] + sizes + [len(post) for post in posts] + left + right
+        return [self.sizes['scale'], len(self.stages) - 1, len(left)] + sizes + [len(post) for post in posts] + left + right
 
 
-def words_of_text(data):
-    reader, line = Reader(), 0
+def words_of_text(data, kind=BookReader):
+    reader, line = kind(), 0
     for line, raw in enumerate(data.split(b'\n'), 1):
         try:
             text = raw.decode('utf-8')
@@ -166,7 +193,7 @@ def words_of_text(data):
         parts = text.split('#')[0].split()
         if parts:
             reader.take(line, parts)
-    return reader.book(line)
+    return reader.all_words(line)
 
 
 def bytes_of_words(words):
@@ -184,8 +211,25 @@ def words_of_bytes(data):
     return [int.from_bytes(data[i:i + 4], 'little', signed=True) for i in range(0, len(data), 4)]
 
 
+def choices_of(counts, left, right):
+    """(the choices of each post or state as a reader holds them, the line after them all), or None if the lines do not fit."""
+    line, rows = 0, []
+    for count in counts:
+        row = []
+        for _ in range(count):
+            if line >= len(left) or left[line] < 0 or line + left[line] >= len(left):
+                return None
+            end = line + 1 + left[line]
+            row.append([right[line], list(zip(left[line + 1:end], right[line + 1:end]))])
+            line = end
+        if count < 0:
+            return None
+        rows.append(row)
+    return rows, line
+
+
 def taken_apart(words):
-    """(scale, stages as a Reader holds them), or None if the words do not divide so, whatever the numbers are."""
+    """(scale, stages as a BookReader holds them), or None if the words do not divide so, whatever the numbers are."""
     if len(words) < 3:
         return None
     scale, last, lines = words[:3]
@@ -196,23 +240,16 @@ def taken_apart(words):
     if lines < 0 or len(words) != 4 + last + posts + 2 * lines:
         return None
     counts = words[4 + last:4 + last + posts]
-    left, right = words[4 + last + posts:4 + last + posts + lines], words[4 + last + posts + lines:]
-    line, row = 0, []
-    for count in counts:
-        post = []
-        for _ in range(count):
-            if line >= lines or left[line] < 0 or line + left[line] >= lines:
-                return None
-            end = line + 1 + left[line]
-            post.append([right[line], list(zip(left[line + 1:end], right[line + 1:end]))])
-            line = end
-        if count < 0:
-            return None
-        row.append(post)
-    if line != lines:
+    found = choices_of(counts, words[4 + last + posts:4 + last + posts + lines], words[4 + last + posts + lines:])
+    if found is None or found[1] != lines:
         return None
     starts = [sum(sizes[:n]) for n in range(len(sizes))]
-    return scale, [row[start:start + size] for start, size in zip(starts, sizes)]
+    return scale, [found[0][start:start + size] for start, size in zip(starts, sizes)]
+
+
+def plain_words(words):
+    rows = [words[i:i + 16] for i in range(0, len(words), 16)] or [[]]
+    return ''.join(' '.join(['words'] + [str(word) for word in row]) + '\n' for row in rows)
 
 
 def next_line(step, weight, first, later):
@@ -230,8 +267,7 @@ def stop_lines(scale, nexts, later):
 def text_of_words(words):
     apart = taken_apart(words)
     if apart is None:
-        rows = [words[i:i + 16] for i in range(0, len(words), 16)] or [[]]
-        return ''.join(' '.join(['words'] + [str(word) for word in row]) + '\n' for row in rows)
+        return plain_words(words)
     scale, stages = apart
     out, first = ['scale %d' % scale], 0
     for n, stage in enumerate(stages):
@@ -246,10 +282,14 @@ def text_of_words(words):
     return '\n'.join(out) + '\n'
 
 
-def to_text(data):
+def whole_words(data):
     if len(data) % 4:
         raise Refused('the file has %d bytes, which is not a multiple of 4' % len(data))
-    return text_of_words(words_of_bytes(data))
+    return words_of_bytes(data)
+
+
+def to_text(data):
+    return text_of_words(whole_words(data))
 
 
 # ---- records
@@ -304,33 +344,37 @@ def unsigned(text):
     return value
 
 
-def arguments():
-    parser = argparse.ArgumentParser(description='Tour books and records as text.')
+def arguments(what, *names):
+    """A parser with a command of each name, which takes a file."""
+    parser = argparse.ArgumentParser(description=what)
     commands = parser.add_subparsers(dest='command', required=True)
-    for name in ('to-binary', 'to-text', 'record-to-text'):
-        command = commands.add_parser(name)
+    found = {name: commands.add_parser(name) for name in names}
+    for command in found.values():
         command.add_argument('file')
-        if name == 'to-binary':
-            command.add_argument('--count', type=unsigned, metavar='K')
-    return parser
+    return parser, found
 
 
-def main():
-    given = arguments().parse_args()
+def run(given, turn):
+    """Writes what `turn` makes of the file's bytes, text or bytes. The exit status."""
     try:
         if given.file == '-':
             data = sys.stdin.buffer.read()
         else:
             with open(given.file, 'rb') as f:
                 data = f.read()
-        if given.command == 'to-binary':
-            sys.stdout.buffer.write(to_binary(data, given.count))
-        else:
-            sys.stdout.write(to_text(data) if given.command == 'to-text' else record_to_text(data))
+        out = turn(data)
+        sys.stdout.buffer.write(out if isinstance(out, bytes) else out.encode())
     except (Refused, OSError) as reason:
         print('%s: %s' % (given.file, getattr(reason, 'strerror', None) or reason), file=sys.stderr)
         return 1
     return 0
+
+
+def main():
+    parser, commands = arguments('Tour books and records as text.', 'to-binary', 'to-text', 'record-to-text')
+    commands['to-binary'].add_argument('--count', type=unsigned, metavar='K')
+    given = parser.parse_args()
+    return run(given, {'to-binary': lambda data: to_binary(data, given.count), 'to-text': to_text, 'record-to-text': record_to_text}[given.command])
 
 
 if __name__ == '__main__':
