@@ -1,6 +1,8 @@
 //! The same calls by an independent implementation: the K-best method with document 01's order, written for speed in safe code.
 //! It shares nothing with the library that it is compared with.
 
+use std::ops::Range;
+
 const POSTS: usize = 64;
 const CHOICES: usize = 8;
 const PLANS: usize = 64;
@@ -475,6 +477,113 @@ fn accepted(record: &[u8]) -> Result<(usize, usize), u32> {
     } else {
         Err(21)
     }
+}
+
+/// A planners' table whose question 25 is passed.
+struct Table<'a> {
+    d: i32,
+    h: usize,
+    first: usize,
+    counts: &'a [i32],
+    left: &'a [i32],
+    right: &'a [i32],
+}
+
+fn amount_allowed(amount: &i32) -> bool {
+    (-100_000..=100_000).contains(amount)
+}
+
+impl<'a> Table<'a> {
+    fn read(words: &'a [i32]) -> Option<Table<'a>> {
+        let [d, h, n, first, l, rest @ ..] = words else { return None };
+        if !((1..=16).contains(n) && (0..*n).contains(first) && (1..=100).contains(d) && (1..=8).contains(h) && (1..=2048).contains(l)) {
+            return None;
+        }
+        let (n, l) = (*n as usize, *l as usize);
+        if rest.len() != n + 2 * l {
+            return None;
+        }
+        let (counts, columns) = rest.split_at(n);
+        let (left, right) = columns.split_at(l);
+        Some(Table { d: *d, h: *h as usize, first: *first as usize, counts, left, right })
+    }
+
+    /// The lines of the first state and the first closing line, if question 26 is passed.
+    fn walk(&self) -> Option<(Range<usize>, usize)> {
+        let (mut line, mut first) = (0, 0..0);
+        for (state, &count) in self.counts.iter().enumerate() {
+            if !(1..=8).contains(&count) {
+                return None;
+            }
+            let from = line;
+            for _ in 0..count {
+                line = self.after(line)?;
+            }
+            if state == self.first {
+                first = from..line;
+            }
+        }
+        let (bare, rewards) = (&self.left[line..], &self.right[line..]);
+        (bare.len() == self.counts.len() && bare.iter().all(|&r| r == 0) && rewards.iter().all(amount_allowed)).then_some((first, line))
+    }
+
+    /// The line after the choice that begins at a line, if 26 allows it.
+    fn after(&self, line: usize) -> Option<usize> {
+        let r = *self.left.get(line)?;
+        if r < 1 {
+            return None;
+        }
+        let end = line + 1 + r as usize;
+        let sum: i64 = self.right.get(line + 1..end)?.iter().map(|&weight| weight as i64).sum();
+        (sum == self.d as i64 && amount_allowed(&self.right[line])).then_some(end)
+    }
+
+    /// The right column with each reward negated. A closing line takes one line as its 0 says.
+    fn costs(&self) -> Vec<i32> {
+        let (mut costs, mut line) = (self.right.to_vec(), 0);
+        while line < costs.len() {
+            costs[line] = -costs[line];
+            line += 1 + self.left[line] as usize;
+        }
+        costs
+    }
+
+    /// The book's words, by its lines and its length.
+    fn book(&self, first: Range<usize>, closings: usize, lines: usize, length: usize) -> Vec<i32> {
+        let mut words = Vec::with_capacity(length);
+        words.extend([self.d, self.h as i32, lines as i32, 1]);
+        words.resize(4 + self.h, self.counts.len() as i32);
+        words.push(self.counts[self.first]);
+        for _ in 1..self.h {
+            words.extend_from_slice(self.counts);
+        }
+        words.resize(words.len() + self.counts.len(), 1);
+        for column in [self.left, &self.costs()] {
+            words.extend_from_slice(&column[first.clone()]);
+            for _ in 1..self.h {
+                words.extend_from_slice(&column[..closings]);
+            }
+            words.extend_from_slice(&column[closings..]);
+        }
+        words
+    }
+}
+
+fn convert_to(words: &[i32], out: &mut [i32]) -> Result<usize, u32> {
+    let table = Table::read(words).ok_or(25u32)?;
+    let (first, closings) = table.walk().ok_or(26u32)?;
+    let (h, n) = (table.h, table.counts.len());
+    let lines = first.len() + (h - 1) * closings + n;
+    let length = 5 + h + n * h + 2 * lines;
+    let front = out.get_mut(..length).ok_or(27u32)?;
+    let book = table.book(first, closings, lines, length);
+    checked(&book)?;
+    front.copy_from_slice(&book);
+    Ok(length)
+}
+
+pub fn convert(table: &[i32], book: &mut [i32]) -> (u32, usize) {
+    convert_to(table, book).map_or_else(|no| (no, 0), |length| (0, length))
 }
 
 const RIDERS: usize = 16;

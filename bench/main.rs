@@ -1,5 +1,5 @@
 //! Speed of the library against the same calls in ordinary Rust, as ratios: library time / Rust time, the median of many runs in turn.
-//! First both are asserted to give equal results on every book that is timed, and on many small and spoiled ones.
+//! First both are asserted to give equal results on every book and table that is timed, and on many small and spoiled ones.
 
 mod baseline;
 
@@ -106,6 +106,60 @@ const LARGEST: [i32; 9] = [1, 7, 8, 8, 8, 8, 8, 8, 8];
 fn largest(rng: &mut Random, costs: (i32, i32)) -> Vec<i32> {
     let transitions = |i: usize| if i % 2 == 0 { 6 } else { 1 + (i < 48) as i32 };
     random_book(rng, &Shape { scale: 10, sizes: &LARGEST, choices: 8, costs, transitions: &transitions, stops: 0 })
+}
+
+/// What a planners' table of random rewards and weights looks like. `counts` has the choices of each state, `transitions(i)` is how many next states the
+/// i-th choice has.
+struct TableShape<'a> {
+    scale: i32,
+    stages: i32,
+    first: i32,
+    counts: &'a [i32],
+    rewards: (i32, i32),
+    transitions: &'a dyn Fn(usize) -> i32,
+}
+
+fn random_table(rng: &mut Random, shape: &TableShape) -> Vec<i32> {
+    let states = shape.counts.len() as i32;
+    let (mut left, mut right) = (vec![], vec![]);
+    for i in 0..shape.counts.iter().sum::<i32>() as usize {
+        let r = (shape.transitions)(i).min(states).min(shape.scale);
+        left.push(r);
+        left.extend(some_of(rng, states, r));
+        right.push(rng.from(shape.rewards.0, shape.rewards.1));
+        right.extend(parts_of(rng, shape.scale, r));
+    }
+    left.extend(shape.counts.iter().map(|_| 0));
+    right.extend(shape.counts.iter().map(|_| rng.from(shape.rewards.0, shape.rewards.1)));
+    let mut words = vec![shape.scale, shape.stages, states, shape.first, left.len() as i32];
+    words.extend_from_slice(shape.counts);
+    words.extend(left);
+    words.extend(right);
+    words
+}
+
+/// The table of docs/FORMAT.md.
+const TABLE: [i32; 25] = [2, 2, 2, 1, 9, 1, 2, 1, 0, 2, 0, 1, 1, 1, 0, 0, 3, 2, 5, 1, 1, -1, 2, 4, -7];
+
+/// Its book has the sizes of the typical book.
+fn typical_table(rng: &mut Random) -> Vec<i32> {
+    random_table(rng, &TableShape { scale: 100, stages: 4, first: 0, counts: &[3; 6], rewards: (-3000, 500), transitions: &|_| 3 })
+}
+
+/// Its book has 64 posts, H = 7 and 2,048 lines.
+fn largest_table(rng: &mut Random) -> Vec<i32> {
+    let transitions = |i: usize| 3 + (5..51).contains(&i) as i32;
+    random_table(rng, &TableShape { scale: 10, stages: 7, first: 0, counts: &[8; 9], rewards: (-3000, 500), transitions: &transitions })
+}
+
+/// Many of these have a book that is refused: too many posts, lines or next posts, or the bound.
+fn any_table(rng: &mut Random) -> Vec<i32> {
+    let (most_states, most_nexts) = ([7, 7, 7, 16][rng.from(0, 3) as usize], [6, 6, 6, 9][rng.from(0, 3) as usize]);
+    let states = rng.from(1, most_states);
+    let counts: Vec<i32> = (0..states).map(|_| rng.from(1 + states / 4, 8)).collect();
+    let (scale, stages, first) = (rng.from(1, 100), rng.from(1, 8), rng.from(0, states - 1));
+    let (most, rewards) = (rng.from(1, most_nexts), [9, 3000, 100_000][rng.from(0, 2) as usize]);
+    random_table(rng, &TableShape { scale, stages, first, counts: &counts, rewards: (-rewards, rewards), transitions: &|i| 1 + i as i32 % most })
 }
 
 /// Room for a whole answer.
@@ -224,6 +278,63 @@ fn assert_equal_desks(rng: &mut Random, record: &[u8]) -> usize {
     CALLS
 }
 
+/// A table to a slice of `room` words; the number and the length.
+fn assert_equal_books(table: &[i32], room: usize) -> (u32, usize) {
+    let (mut a, mut b) = (vec![7; room], vec![7; room]);
+    let converted = number(kbest::convert(table, &mut a), 0);
+    assert_eq!(converted, baseline::convert(table, &mut b), "convert of {table:?}");
+    assert!(a == b, "book of {table:?}");
+    converted
+}
+
+/// The same to slices of several lengths: one that holds every book, one that holds every accepted book, a random one, and an accepted book's own length
+/// and one word less. Marks the numbers that were given.
+fn assert_equal_table(rng: &mut Random, table: &[i32], given: &mut [bool; 28]) {
+    for room in [kbest::TABLE_BOOK_MOST, kbest::BOOK_MOST, rng.from(0, 999) as usize] {
+        let (no, length) = assert_equal_books(table, room);
+        given[no as usize] = true;
+        if no == 0 {
+            assert_eq!(assert_equal_books(table, length), (0, length));
+            assert_eq!(assert_equal_books(table, length - 1), (27, 0));
+        }
+    }
+}
+
+/// Changes a word of a table, or a word of its right column and the next one so that their sum stays.
+fn spoil(rng: &mut Random, table: &mut [i32], both: bool) {
+    let low = if both { 5 + table[2] + table[4] } else { 0 };
+    let at = rng.from(low, table.len() as i32 - 1 - both as i32) as usize;
+    let by = rng.from(-2, 2);
+    table[at] += by;
+    if both {
+        table[at + 1] -= by;
+    }
+}
+
+/// How many tables were compared. Every number that a table can get is given.
+fn assert_random_tables(rng: &mut Random) -> usize {
+    const ROUNDS: usize = 1000;
+    let mut given = [false; 28];
+    for round in 0..ROUNDS {
+        let table = match round % 4 {
+            0 => typical_table(rng),
+            1 => largest_table(rng),
+            _ => any_table(rng),
+        };
+        assert!(round % 4 > 1 || kbest::convert(&table, &mut [0; kbest::BOOK_MOST]).is_ok(), "a table that is not spoiled is accepted: {table:?}");
+        assert_equal_table(rng, &table, &mut given);
+        for both in [false, true] {
+            let mut spoiled = table.clone();
+            spoil(rng, &mut spoiled, both);
+            assert_equal_table(rng, &spoiled, &mut given);
+        }
+        let kept = rng.from(0, table.len() as i32 - 1) as usize;
+        assert_equal_table(rng, &table[..kept], &mut given);
+    }
+    assert!([0, 4, 6, 9, 11, 12, 13, 25, 26, 27].iter().all(|&no| given[no]), "the numbers given: {given:?}");
+    4 * ROUNDS
+}
+
 /// Seconds of one call, by `repeats` of it.
 fn time<T>(repeats: usize, call: &mut impl FnMut() -> T) -> f64 {
     let start = Instant::now();
@@ -330,6 +441,25 @@ fn desk_ratios(name: &str, record: &[u8]) {
     println!("{name:28} {open:7.2} {ask:7.2} {refused:8.2} {cancel:8.2} {commit:8.2} {held:8.2}");
 }
 
+fn convert_library(table: &[i32], book: &mut [i32]) -> usize {
+    let length = kbest::convert(black_box(table), book).unwrap_or(0);
+    black_box(book);
+    length
+}
+
+fn convert_rust(table: &[i32], book: &mut [i32]) -> usize {
+    let length = baseline::convert(black_box(table), book).1;
+    black_box(book);
+    length
+}
+
+/// The same for converting a table, named with the lines of its book.
+fn table_ratio(name: &str, table: &[i32]) {
+    let (mut a, mut b) = ([0; kbest::BOOK_MOST], [0; kbest::BOOK_MOST]);
+    let convert = ratio(|| convert_library(table, &mut a), || convert_rust(table, &mut b));
+    println!("{:28} {convert:7.2}", format!("{name}, {} lines", a[2]));
+}
+
 /// How the time of ranking grows with K, against K = 1.
 fn growth_with_k(name: &str, book: &[i32]) {
     let (mut a, mut b) = (Room::new(), Room::new());
@@ -408,7 +538,12 @@ fn main() {
     }
     let record = record_of(&books[2].1);
     let (small, calls) = (assert_small_books(&mut rng), assert_equal_desks(&mut rng, &record));
-    println!("equal results on the timed books, on {small} small ones and in {calls} calls at a desk\n");
+    let tables = [("small", TABLE.to_vec()), ("typical", typical_table(&mut rng)), ("largest", largest_table(&mut rng))];
+    for (_, table) in &tables {
+        assert_eq!(assert_equal_books(table, kbest::BOOK_MOST).0, 0, "a timed table is accepted");
+    }
+    let random = assert_random_tables(&mut rng);
+    println!("equal results on the timed books and tables, on {small} small books, in {calls} calls at a desk and on {random} random tables\n");
 
     println!("library time / Rust time");
     println!("{:28} {:>7} {:>7} {:>7} {:>8} {:>8} {:>8} {:>8} {:>8}", "", "check", "value", "least", "rank 1", "rank 8", "rank 64", "write 64", "accept");
@@ -419,6 +554,12 @@ fn main() {
     println!("\nat a desk, library time / Rust time");
     println!("{:28} {:>7} {:>7} {:>8} {:>8} {:>8} {:>8}", "", "open", "ask", "refused", "cancel", "commit", "held");
     desk_ratios("typical, k = 64", &record);
+
+    println!("\ntables, library time / Rust time");
+    println!("{:28} {:>7}", "", "convert");
+    for (name, table) in &tables {
+        table_ratio(name, table);
+    }
 
     println!("\nranking, time / time for K = 1");
     println!("{:25} {}", "K", [1, 2, 4, 8, 16, 32, 64].map(|k| format!("{k:7}")).concat());
