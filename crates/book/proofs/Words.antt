@@ -8,8 +8,8 @@ use native.Mathlib.Omega.{arith}
 use borrow.Author.Tests.{not-true, not-false, ltb-true, ltb-false, le-leb, lt-leb}
 use lib.Dec.{T, leb, ltb, lit≤}
 use lib.IntN.{ℤ, pos, negsuc, natAbs, _-ℤ_}
-use lib.Signed.{mag, ltZ, nonNeg}
-use mir.Syntax.{w32, w64}
+use lib.Signed.{mag, leZ, ltZ, nonNeg}
+use mir.Syntax.{Width, w32, w64}
 use mir.Val.{SFits, toZ, ofZ}
 use mir.Facts.{toZ-ofZ}
 use Rattle.model.specs.Questions.{inside}
@@ -49,6 +49,14 @@ no {r} e t = sym e ∙ not-true r t
 
 pub yes′ : {r p : Bool} → r ≡ p → not r ≡ false → p ≡ true
 yes′ {r} e t = sym e ∙ not-false r t
+
+-- both tests of a number from lo to hi, at any width
+module _ {w : Width} {lo hi x : ℤ} (l : SFits w lo) (h : SFits w hi) (f : SFits w x) where
+  pub inside-yes : leZ (toZ w (ofZ w lo)) (toZ w (ofZ w x)) ≡ true → leZ (toZ w (ofZ w x)) (toZ w (ofZ w hi)) ≡ inside lo hi x
+  inside-yes e = rw (toZ-ofZ f, toZ-ofZ h, rw (toZ-ofZ l, toZ-ofZ f) at e)
+
+  pub inside-no : leZ (toZ w (ofZ w lo)) (toZ w (ofZ w x)) ≡ false → leZ (toZ w (ofZ w lo)) (toZ w (ofZ w x)) ≡ inside lo hi x
+  inside-no e = rw (toZ-ofZ l, toZ-ofZ f, rw (toZ-ofZ l, toZ-ofZ f) at e)
 
 -- ---- a word below n, and one from 1 to n, by its size
 

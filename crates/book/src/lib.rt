@@ -4,6 +4,7 @@ ghost use Prim.Native.Nat.{_+_, _<_, _≤_};
 ghost use lib.IntN.{pos, natAbs};
 ghost use lib.Signed.{ltZ};
 ghost use lib.ListN.{length};
+ghost use Rattle.model.specs.Lists.{all};
 ghost use Rattle.model.specs.Model.{word, horizon, stateCount};
 ghost use Rattle.model.specs.Questions.{inside};
 ghost use Rattle.questions.specs.Sizes.{Sized};
@@ -37,6 +38,29 @@ pub fn word_in(b: &[i32], i: usize, lo: i32, hi: i32) -> bool
 {
     let x = b[i];
     within(x, lo, hi)
+}
+
+// Word i.
+pub fn word_at(b: &[i32], i: usize) -> i32
+    requires { ⌜ i < length (now b) ⌝ }
+    ensures { λ r. ⌜ r ≡ word (now (b .entry)) i ⌝ }
+{
+    b[i]
+}
+
+// Are the n words from word `at` on each from lo to hi?
+pub fn words_in(b: &[i32], at: usize, n: usize, lo: i32, hi: i32) -> bool
+    requires { ⌜ at + n ≤ length (now b) ⌝ }
+    ensures { λ r. ⌜ r ≡ all n (λ i. inside lo hi (word (now (b .entry)) (at + i))) ⌝ }
+{
+    let mut i: usize = 0;
+    while i < n {
+        if !word_in(b, at + i, lo, hi) {
+            return false;
+        }
+        i = i + 1;
+    }
+    true
 }
 
 // A word without its sign. It is widened first: the lowest word has no positive counterpart of its own width.

@@ -23,6 +23,7 @@ use Rattle.accepted.specs.Demands.{reached, start-reached, nexts-reached, polic
 use Rattle.reward_table.specs.Table.{tableScale, tableHorizon, tableStates, tableFirst, tableCount, tableRight, tableLine, tableBranches}
 use Rattle.reward_table.specs.Table.{tableActionLine, readEntry, tableEntry, sumZ}
 use Rattle.reward_table.specs.Days.{outcome, outcomes, TableStep, TableDay, dayWeight, dayReward, daysFrom, totalReward, place, choiceAt, tableDays}
+use Rattle.reward_table.specs.Days.{tableStep}
 use Rattle.reward_table.specs.Convert.{tableBook}
 use Rattle.conversion.specs.Given.{Converted}
 use Rattle.conversion.specs.Sizes.{Stands, stateAt, first-stands, placed, placed-in, bookAction, closingAction, scale-same, horizon-same}
@@ -136,8 +137,7 @@ module _ (t : Words) (g : Converted t) where
 
     abbrev daysBy : ℕ → ℕ → ℕ → Transition → List TableDay
     daysBy m k s o =
-        map (λ (day : TableDay). record { stage = k; state = s; reward = tableEntry t s (choiceAt t bs k s) .amount; weight = o .weight } ∷ day)
-        (daysFrom t (choiceAt t bs) m (suc k) (o .next))
+        map (λ (day : TableDay). tableStep t (choiceAt t bs) k s (o .weight) ∷ day) (daysFrom t (choiceAt t bs) m (suc k) (o .next))
 
     -- the paths from the place of k and s are the days from there
     Agree : ℕ → ℕ → ℕ → Type 0
@@ -158,15 +158,11 @@ module _ (t : Words) (g : Converted t) where
         (each m k s os (λ x i. h x (inr i)))
         ∙ sym (map-append (asPath (tableStates t)) (daysBy m k s o) (forEach (daysBy m k s) os))
       where
-        step : Step
-        step = record {
-          state = stateAt t k s;
-          cost = negℤ (tableEntry t s (choiceAt t bs k s) .amount);
-          weight = o .weight;
-        }
-
         day-step : TableStep
-        day-step = record { stage = k; state = s; reward = tableEntry t s (choiceAt t bs k s) .amount; weight = o .weight }
+        day-step = tableStep t (choiceAt t bs) k s (o .weight)
+
+        step : Step
+        step = asStep (tableStates t) day-step
 
     days-from : (m k s : ℕ) → k + m ≡ tableHorizon t → Stands t k s → In (stateAt t k s) (reached (tableBook t) bs) → Agree m k s
     unfolding Agree choiceAt

@@ -2,28 +2,12 @@
 use book::Sizes;
 use book::Stage;
 ghost use mathlib.Core.Path.{_≡_};
-ghost use Prim.Native.Nat.{_+_, _<_, _≤_};
+ghost use Prim.Native.Nat.{_<_, _≤_};
 ghost use lib.ListN.{length};
-ghost use Rattle.model.specs.Lists.{all};
-ghost use Rattle.model.specs.Model.{word, horizon};
-ghost use Rattle.model.specs.Questions.{firstNo, countInside, laterSize, sizesAllowed, lengthAllowed, countsAllowed, sizeQuestions};
+ghost use Rattle.model.specs.Model.{word};
+ghost use Rattle.model.specs.Questions.{firstNo, countInside, sizesAllowed, lengthAllowed, countsAllowed, sizeQuestions};
 ghost use Rattle.questions.specs.Sizes.{Sized};
 ghost use Rattle.book.specs.Read.{Headed, SizesAre};
-
-// 6, for the stages from 1 on: are there 1 to 16 states at each?
-fn later_sizes(b: &[i32], h: usize) -> bool
-    requires { ⌜ (h ≡ horizon (now b)) × (h ≤ 8) × (4 + h ≤ length (now b)) ⌝ }
-    ensures { λ r. ⌜ r ≡ all (horizon (now (b .entry))) (laterSize (now (b .entry))) ⌝ }
-{
-    let mut n: usize = 0;
-    while n < h {
-        if !book::word_in(b, 4 + n, 1, 16) {
-            return false;
-        }
-        n = n + 1;
-    }
-    true
-}
 
 // 6
 fn sizes_allowed(b: &[i32], z: Sizes) -> bool
@@ -33,7 +17,7 @@ fn sizes_allowed(b: &[i32], z: Sizes) -> bool
     if !book::word_in(b, 3, 1, 1) {
         return false;
     }
-    if !later_sizes(b, z.h) {
+    if !book::words_in(b, 4, z.h, 1, 16) {
         return false;
     }
     z.s <= 64

@@ -8,13 +8,15 @@ use native.Mathlib.Omega.{arith}
 use borrow.Author.Tests.{le-leb, lt-leb}
 use lib.IntN.{ℤ, pos, negsuc, natAbs, _+ℤ_}
 use lib.Signed.{leZ, ltZ}
+use Rattle.model.specs.Lists.{all}
 use Rattle.model.specs.Model.{Words, word}
 use Rattle.model.specs.Questions.{inside, costInside}
-use Rattle.questions.specs.Ranges.{and-right}
+use Rattle.questions.specs.Ranges.{and-right, all-same}
 use Rattle.reward_table.specs.Table.{tableStates, tableLines, tableCount, tableLeft, tableRight, tableBranches, tableAfter, tableStateLine}
 use Rattle.reward_table.specs.Table.{closingLine}
 use Rattle.reward_table.specs.Table.{someBranch, linesFit, sumZ, weightsAdd, closingBare, rewardInside}
-use Rattle.reward_table.specs.Read.{TableRead, entryGiven, closingGiven}
+use Rattle.reward_table.specs.Read.{TableRead, entryGiven}
+use Rattle.reward_table.specs.Says.{closingRewards}
 use Rattle.reward_table.specs.declared.Table.{Table}
 
 -- ---- signed tests
@@ -85,26 +87,19 @@ module _ (t : Words) (j : ℕ) where
     unfolding entryGiven someBranch linesFit rewardInside
     entry-weighed e = rw (some, le-leb (tableAfter t j) (tableLines t) fit, e)
 
--- ---- 26, of one closing line
+-- ---- 26, of the closing lines
 
-module _ (t : Words) (z : Table) (are : TableRead t z) (at : ℕ) (e : at ≡ tableStateLine t (tableStates t)) (s : ℕ) where
-  bare-is : closingBare t s ≡ inside (pos 0) (pos 0) (word t (z .columns + at + s))
+module _ (t : Words) (z : Table) (are : TableRead t z) (at : ℕ) (e : at ≡ tableStateLine t (tableStates t)) where
+  pub bare-are : all (z .n) (λ (i : ℕ). inside (pos 0) (pos 0) (word t (z .columns + at + i))) ≡ all (tableStates t) (closingBare t)
   unfolding closingBare closingLine
-  bare-is = ap (inside (pos 0) (pos 0)) (sym (left-at t z are (tableStateLine t (tableStates t) + s) (z .columns + at + s) (omega (arith, e))))
+  bare-are =
+      all-same (z .n) _ _
+      (λ s l. ap (inside (pos 0) (pos 0)) (left-at t z are (tableStateLine t (tableStates t) + s) (z .columns + at + s) (omega (arith, e))))
+      ∙ ap (λ (n : ℕ). all n (λ (s : ℕ). inside (pos 0) (pos 0) (tableLeft t (tableStateLine t (tableStates t) + s)))) (are .n-is)
 
-  reward-is : rewardInside t (closingLine t s) ≡ costInside (word t (z .columns + at + z .l + s))
+  pub rewards-are : all (z .n) (λ (i : ℕ). costInside (word t (z .columns + at + z .l + i))) ≡ all (tableStates t) (closingRewards t)
   unfolding rewardInside closingLine
-  reward-is = ap costInside (sym (right-at t z are (tableStateLine t (tableStates t) + s) (z .columns + at + z .l + s) (omega (arith, e))))
-
-  pub unbare : inside (pos 0) (pos 0) (word t (z .columns + at + s)) ≡ false → closingGiven t s ≡ false
-  unfolding closingGiven
-  unbare f = rw (bare-is ∙ f)
-
-  pub beyond : costInside (word t (z .columns + at + z .l + s)) ≡ false → closingGiven t s ≡ false
-  unfolding closingGiven
-  beyond f = rw (reward-is ∙ f) (and-right (closingBare t s))
-
-  pub closed : inside (pos 0) (pos 0) (word t (z .columns + at + s)) ≡ true → costInside (word t (z .columns + at + z .l + s)) ≡ true
-      → closingGiven t s ≡ true
-  unfolding closingGiven
-  closed f g = rw (bare-is ∙ f, reward-is ∙ g)
+  rewards-are =
+      all-same (z .n) _ _
+      (λ s l. ap costInside (right-at t z are (tableStateLine t (tableStates t) + s) (z .columns + at + z .l + s) (omega (arith, e))))
+      ∙ ap (λ (n : ℕ). all n (λ (s : ℕ). costInside (tableRight t (tableStateLine t (tableStates t) + s)))) (are .n-is)

@@ -44,14 +44,15 @@ dayReward (s ∷ ss) = s .reward +ℤ dayReward ss
 
 module _ (t : Words) (choice : ℕ → ℕ → ℕ) where
   -- the step from state s of stage k on a line of weight w
-  abbrev pub step : ℕ → ℕ → ℕ → TableStep
-  step k s w = record { stage = k; state = s; reward = tableEntry t s (choice k s) .amount; weight = w }
+  abbrev pub tableStep : ℕ → ℕ → ℕ → TableStep
+  tableStep k s w = record { stage = k; state = s; reward = tableEntry t s (choice k s) .amount; weight = w }
 
   -- the days from state s of stage k with m stages still to come, where `choice` is the one made at each stage and state
   abbrev pub daysFrom : ℕ → ℕ → ℕ → List TableDay
   daysFrom zero k s = (record { stage = k; state = s; reward = closingReward t s; weight = 1 } ∷ []) ∷ []
   daysFrom (suc m) k s =
-      forEach (λ (o : Transition). map (λ (day : TableDay). step k s (o .weight) ∷ day) (daysFrom m (suc k) (o .next))) (outcomes t s (choice k s))
+      forEach (λ (o : Transition). map (λ (day : TableDay). tableStep k s (o .weight) ∷ day) (daysFrom m (suc k) (o .next)))
+      (outcomes t s (choice k s))
 
 -- the sum over days of weight × reward
 abbrev pub totalReward : List TableDay → ℤ

@@ -7,8 +7,7 @@ use lib.ListN.{length}
 use Rattle.model.specs.Lists.{all}
 use Rattle.model.specs.Model.{Words}
 use Rattle.reward_table.specs.Table.{tableScale, tableHorizon, tableStates, tableFirst, tableLines, tableCount, tableStateLine, tableActionLine}
-use Rattle.reward_table.specs.Table.{closingLine}
-use Rattle.reward_table.specs.Table.{someBranch, linesFit, weightsAdd, closingBare, rewardInside}
+use Rattle.reward_table.specs.Table.{someBranch, linesFit, weightsAdd, rewardInside}
 use Rattle.reward_table.specs.declared.Table.{Table}
 use Rattle.reward_table.specs.declared.Walk.{Walk}
 
@@ -32,12 +31,9 @@ pub record TableRead (t : Words) (z : Table) : Type 0 where
   pub l-is : z .l ≡ tableLines t
   pub columns-is : z .columns ≡ 5 + tableStates t
 
--- what question 26 asks of one action, and of one closing line
+-- what question 26 asks of one action
 unfoldable pub entryGiven : Words → ℕ → Bool
 entryGiven t j = someBranch t j && linesFit t j && rewardInside t j && weightsAdd t j
-
-unfoldable pub closingGiven : Words → ℕ → Bool
-closingGiven t s = closingBare t s && rewardInside t (closingLine t s)
 
 -- of the actions of state s, and of the states below `end`
 unfoldable pub stateGiven : Words → ℕ → Bool

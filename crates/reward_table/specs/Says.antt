@@ -1,6 +1,6 @@
 -- What the questions 25 and 26 say of a table that passes them, and where its lines stand.
 -- Assumes nothing.
-use mathlib.Core.Path.{_≡_, refl, sym, ap, ap₂, _∙_}
+use mathlib.Core.Path.{_≡_, refl, sym, ap, _∙_}
 use mathlib.Core.Bool.{Bool, true, _&&_}
 use Prim.Native.Nat.{ℕ, _+_, _*_, _≤_, _<_}
 use native.Mathlib.Numerals.{add-one}
@@ -20,7 +20,7 @@ use Rattle.reward_table.specs.Table.{tableBranches}
 use Rattle.reward_table.specs.Table.{tableAfter, tableSkip, tableStateLine, tableActionLine, closingLine, sizesGiven, countGiven, everyEntry}
 use Rattle.reward_table.specs.Table.{someBranch}
 use Rattle.reward_table.specs.Table.{linesFit, allUsed, weightsAdd, closingBare, rewardInside, linesGiven}
-use Rattle.reward_table.specs.Read.{Given, entryGiven, closingGiven, stateGiven, statesGiven}
+use Rattle.reward_table.specs.Read.{Given, entryGiven, stateGiven, statesGiven}
 
 -- ---- signed tests
 
@@ -29,20 +29,18 @@ sizes-rise (pos a) (pos b) e f = ltb-true a b f
 sizes-rise (pos a) (negsuc b) e f = let z : _≡_ {A = ℕ} 0 1 = cc in absurd (omega arith)
 sizes-rise (negsuc a) y e f = let z : _≡_ {A = ℕ} 0 1 = cc in absurd (omega arith)
 
--- a word from 1 on is its own size
-pub own-size : (z : ℤ) → leZ (pos 1) z ≡ true → z ≡ pos (natAbs z)
-own-size (pos n) e = refl
-own-size (negsuc n) e = let z : _≡_ {A = ℕ} 0 1 = cc in absurd (omega arith)
+-- a word from 0 on is its own size
+own : (lo : ℕ) (z : ℤ) → leZ (pos lo) z ≡ true → z ≡ pos (natAbs z)
+own lo (pos n) e = refl
+own lo (negsuc n) e = let z : _≡_ {A = ℕ} 0 1 = cc in absurd (omega arith)
+
+own-inside : (lo hi : ℕ) (z : ℤ) → inside (pos lo) (pos hi) z ≡ true → z ≡ pos (natAbs z)
+own-inside lo hi z e = own lo z (and-true (leZ (pos lo) z) (leZ z (pos hi)) e .0)
 
 -- a reward that is allowed
 pub reward-small : (z : ℤ) → costInside z ≡ true → natAbs z ≤ 100000
 reward-small (pos n) e = leb-true n 100000 e
 reward-small (negsuc n) e = let h = leb-true n 99999 (and-true (leb n 99999) true e .0) in omega arith
-
--- a word from 1 to 8, and one from 0 to 0, is its own size
-own : (lo hi : ℕ) (z : ℤ) → inside (pos lo) (pos hi) z ≡ true → z ≡ pos (natAbs z)
-own lo hi (pos n) e = refl
-own lo hi (negsuc n) e = let z : _≡_ {A = ℕ} 0 1 = cc in absurd (omega arith)
 
 -- ---- 25
 
@@ -98,7 +96,7 @@ entry-says t j e =
     let w = and-true _ (weightsAdd t j) e in
     let r = and-true _ (costInside (tableRight t j)) (w .0) in
     let f = and-true (leZ (pos 1) (tableLeft t j)) (leb (tableAfter t j) (tableLines t)) (r .0) in
-    record { some = own-size (tableLeft t j) (f .0); fit = leb-true (tableAfter t j) (tableLines t) (f .1); reward = r .1; weights = w .1 }
+    record { some = own 1 (tableLeft t j) (f .0); fit = leb-true (tableAfter t j) (tableLines t) (f .1); reward = r .1; weights = w .1 }
 
 -- ---- 26, of all
 
@@ -119,16 +117,11 @@ states-are t =
     (every-both t (λ u j. someBranch u j && linesFit u j) rewardInside
     ∙ ap (λ (b : Bool). b && everyEntry rewardInside t) (every-both t someBranch linesFit))
 
-closings-are : (t : Words) → all (tableStates t) (closingGiven t)
-    ≡ (all (tableStates t) (closingBare t) && all (tableStates t) (λ (s : ℕ). rewardInside t (closingLine t s)))
-unfolding closingGiven
-closings-are t = all-both (tableStates t) (closingBare t) (λ (s : ℕ). rewardInside t (closingLine t s))
-
 regroup : (a b c u w z r q : Bool)
-    → (a && b && (c && u) && w && z && (r && q)) ≡ (a && (b && c && r && w) && u && (z && q))
+    → (a && b && (c && u) && w && z && (r && q)) ≡ (a && (b && c && r && w) && u && z && q)
 regroup a b c u w z r q = same-test _ _ (λ h. true-T (there (T-true _ h))) (λ h. true-T (back (T-true _ h)))
   where
-    there : (a && b && (c && u) && w && z && (r && q)) ≡ true → (a && (b && c && r && w) && u && (z && q)) ≡ true
+    there : (a && b && (c && u) && w && z && (r && q)) ≡ true → (a && (b && c && r && w) && u && z && q) ≡ true
     there e =
         let e6 = and-true _ (r && q) e in
         let rq = and-true r q (e6 .1) in
@@ -139,24 +132,32 @@ regroup a b c u w z r q = same-test _ _ (λ h. true-T (there (T-true _ h))) (λ 
         let ab = and-true a b (e3 .0) in
         rw (ab .0, ab .1, cu .0, cu .1, e4 .1, e5 .1, rq .0, rq .1)
 
-    back : (a && (b && c && r && w) && u && (z && q)) ≡ true → (a && b && (c && u) && w && z && (r && q)) ≡ true
+    back : (a && (b && c && r && w) && u && z && q) ≡ true → (a && b && (c && u) && w && z && (r && q)) ≡ true
     back e =
-        let zq = and-true _ (z && q) e in
-        let pz = and-true z q (zq .1) in
-        let eu = and-true _ u (zq .0) in
+        let eq = and-true _ q e in
+        let ez = and-true _ z (eq .0) in
+        let eu = and-true _ u (ez .0) in
         let ea = and-true a (b && c && r && w) (eu .0) in
         let ew = and-true _ w (ea .1) in
         let er = and-true _ r (ew .0) in
         let bc = and-true b c (er .0) in
-        rw (ea .0, bc .0, bc .1, er .1, ew .1, eu .1, pz .0, pz .1)
+        rw (ea .0, bc .0, bc .1, er .1, ew .1, eu .1, ez .1, eq .1)
+
+-- the rewards of the closing lines
+abbrev pub closingRewards : Words → ℕ → Bool
+closingRewards t s = rewardInside t (closingLine t s)
 
 pub lines-are : (t : Words)
-    → linesGiven t ≡ (all (tableStates t) (countGiven t) && statesGiven t (tableStates t) && allUsed t && all (tableStates t) (closingGiven t))
+    → linesGiven t
+    ≡ (all (tableStates t) (countGiven t) && statesGiven t (tableStates t) && allUsed t && all (tableStates t) (closingBare t)
+    && all (tableStates t) (closingRewards t))
 unfolding linesGiven
 lines-are t =
     regroup (all (tableStates t) (countGiven t)) (everyEntry someBranch t) (everyEntry linesFit t) (allUsed t) (everyEntry weightsAdd t)
-    (all (tableStates t) (closingBare t)) (everyEntry rewardInside t) (all (tableStates t) (λ (s : ℕ). rewardInside t (closingLine t s)))
-    ∙ ap₂ (λ (x y : Bool). all (tableStates t) (countGiven t) && x && allUsed t && y) (sym (states-are t)) (sym (closings-are t))
+    (all (tableStates t) (closingBare t)) (everyEntry rewardInside t) (all (tableStates t) (closingRewards t))
+    ∙ ap (λ (x : Bool). all (tableStates t) (countGiven t) && x && allUsed t && all (tableStates t) (closingBare t) && all (tableStates t)
+    (closingRewards t))
+    (sym (states-are t))
 
 -- ---- 26, of each part
 
@@ -164,19 +165,21 @@ module _ (t : Words) (ok : linesGiven t ≡ true) where
   abbrev n : ℕ
   n = tableStates t
 
-  each : (all n (countGiven t) ≡ true) × (statesGiven t n ≡ true) × (allUsed t ≡ true) × (all n (closingGiven t) ≡ true)
+  each : (all n (countGiven t) ≡ true) × (statesGiven t n ≡ true) × (allUsed t ≡ true) × (all n (closingBare t) ≡ true)
+      × (all n (closingRewards t) ≡ true)
   each =
-      let c = and-true _ (all n (closingGiven t)) (sym (lines-are t) ∙ ok) in
+      let r = and-true _ (all n (closingRewards t)) (sym (lines-are t) ∙ ok) in
+      let c = and-true _ (all n (closingBare t)) (r .0) in
       let u = and-true _ (allUsed t) (c .0) in
       let s = and-true (all n (countGiven t)) (statesGiven t n) (u .0) in
-      (s .0, s .1, u .1, c .1)
+      (s .0, s .1, u .1, c .1, r .1)
 
   pub count-word : (s : ℕ) → s < n → (word t (5 + s) ≡ pos (tableCount t s)) × (1 ≤ tableCount t s) × (tableCount t s ≤ 8)
   unfolding countGiven tableCount
   count-word s l =
       let e = all-at n (countGiven t) (each .0) s l in
       let r = inside-range 1 8 (word t (5 + s)) e in
-      (own 1 8 (word t (5 + s)) e, r .0, r .1)
+      (own-inside 1 8 (word t (5 + s)) e, r .0, r .1)
 
   pub entry-as : (s c : ℕ) → s < n → c < tableCount t s → EntryAs t (tableActionLine t s c)
   unfolding statesGiven stateGiven
@@ -194,12 +197,15 @@ module _ (t : Words) (ok : linesGiven t ≡ true) where
   all-used = eqb-true (tableStateLine t n + n) (tableLines t) (each .2)
 
   pub closing-bare : (s : ℕ) → s < n → (tableLeft t (closingLine t s) ≡ pos 0) × (natAbs (tableRight t (closingLine t s)) ≤ 100000)
-  unfolding closingGiven closingBare rewardInside
+  unfolding closingBare rewardInside
   closing-bare s l =
-      let e = and-true (closingBare t s) (rewardInside t (closingLine t s)) (all-at n (closingGiven t) (each .3) s l) in
-      let z = inside-range 0 0 (tableLeft t (closingLine t s)) (e .0) in
-      let o : natAbs (tableLeft t (closingLine t s)) ≡ 0 = omega arith in
-      (own 0 0 (tableLeft t (closingLine t s)) (e .0) ∙ ap pos o, reward-small (tableRight t (closingLine t s)) (e .1))
+      let e = all-at n (closingBare t) (each .3) s l in
+      let z = inside-range 0 0 (tableLeft t (closingLine t s)) e in
+      let o : natAbs (tableLeft t (closingLine t s)) ≡ 0 = omega arith in (
+        own-inside 0 0 (tableLeft t (closingLine t s)) e ∙ ap pos o,
+        reward-small (tableRight t (closingLine t s))
+            (all-at n (closingRewards t) (each .4) s l),
+      )
 
 -- ---- lines
 

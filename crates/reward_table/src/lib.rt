@@ -1,14 +1,12 @@
 // Planners' reward tables: their sizes, and their questions 25 and 26.
 ghost use mathlib.Core.Path.{_≡_};
-ghost use mathlib.Core.Bool.{true};
 ghost use Prim.Native.Nat.{_+_, _<_, _≤_};
 ghost use lib.IntN.{natAbs, _+ℤ_};
 ghost use lib.ListN.{length};
-ghost use Rattle.model.specs.Lists.{all};
 ghost use Rattle.model.specs.Model.{word};
 ghost use Rattle.model.specs.Questions.{firstNo, inside};
-ghost use Rattle.reward_table.specs.Table.{tableStates, tableStateLine, countGiven, sizesGiven, linesGiven, tableQuestions, sumZ};
-ghost use Rattle.reward_table.specs.Read.{Given, TableRead, entryGiven, closingGiven, Walked, WalkedTo};
+ghost use Rattle.reward_table.specs.Table.{tableStates, tableStateLine, sizesGiven, linesGiven, tableQuestions, sumZ};
+ghost use Rattle.reward_table.specs.Read.{Given, TableRead, entryGiven, Walked, WalkedTo};
 
 // The sizes that a table begins with, D, H, n, the first state and L, and the word at which its left column begins.
 pub struct Table {
@@ -70,29 +68,6 @@ pub fn read_table(t: &[i32]) -> Table
     }
 }
 
-// 26: is every choice count from 1 to 8?
-fn counts_given(t: &[i32], n: usize) -> bool
-    requires { ⌜ 5 + n ≤ length (now t) ⌝ }
-    ensures { λ r. ⌜ r ≡ all n (countGiven (now (t .entry))) ⌝ }
-{
-    let mut s: usize = 0;
-    while s < n {
-        if !book::word_in(t, 5 + s, 1, 8) {
-            return false;
-        }
-        s = s + 1;
-    }
-    true
-}
-
-// Word i.
-pub fn word_at(t: &[i32], i: usize) -> i32
-    requires { ⌜ i < length (now t) ⌝ }
-    ensures { λ r. ⌜ r ≡ word (now (t .entry)) i ⌝ }
-{
-    t[i]
-}
-
 // A word more of a sum.
 fn add(sum: i64, x: i32) -> i64
     requires { ⌜ natAbs sum ≤ 4398046511104 ⌝ }
@@ -109,7 +84,7 @@ fn weigh(t: &[i32], at: usize, r: usize) -> i64
     let mut sum: i64 = 0;
     let mut i: usize = 0;
     while i < r {
-        sum = add(sum, word_at(t, at + i));
+        sum = add(sum, book::word_at(t, at + i));
         i = i + 1;
     }
     sum
@@ -183,34 +158,13 @@ pub fn walk_to(t: &[i32], z: Table, end: usize) -> Walk
     Walk { ok: true, at: at }
 }
 
-// 26, of the closing lines, the first of which is line `at`.
-fn closings_given(t: &[i32], z: Table, at: usize) -> bool
-    requires { ⌜ Given (now t) × TableRead (now t) z × (at ≡ tableStateLine (now t) (tableStates (now t))) × (at + z .n ≡ z .l) ⌝ }
-    ensures { λ r. ⌜ r ≡ all (tableStates (now (t .entry))) (closingGiven (now (t .entry))) ⌝ }
-{
-    let n = z.n;
-    let left = z.columns + at;
-    let right = left + z.l;
-    let mut s: usize = 0;
-    while s < n {
-        if !book::word_in(t, left + s, 0, 0) {
-            return false;
-        }
-        if !book::word_in(t, right + s, -100000, 100000) {
-            return false;
-        }
-        s = s + 1;
-    }
-    true
-}
-
 // 26
 fn lines_given(t: &[i32], z: Table) -> bool
     requires { ⌜ Given (now t) × TableRead (now t) z ⌝ }
     ensures { λ r. ⌜ r ≡ linesGiven (now (t .entry)) ⌝ }
 {
     let n = z.n;
-    if !counts_given(t, n) {
+    if !book::words_in(t, 5, n, 1, 8) {
         return false;
     }
     let w = walk_to(t, z, n);
@@ -221,7 +175,11 @@ fn lines_given(t: &[i32], z: Table) -> bool
     if at + n != z.l {
         return false;
     }
-    closings_given(t, z, at)
+    let closing = z.columns + at;
+    if !book::words_in(t, closing, n, 0, 0) {
+        return false;
+    }
+    book::words_in(t, closing + z.l, n, -100000, 100000)
 }
 
 // The number of the first of the questions 25 and 26 that is answered no, or 0.

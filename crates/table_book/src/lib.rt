@@ -1,9 +1,8 @@
 // The book of a planners' table: its sizes, and its words, put to the front of a slice.
 use reward_table::Table;
 ghost use mathlib.Core.Path.{_≡_};
-ghost use mathlib.Core.Bool.{Bool};
 ghost use Prim.Native.Nat.{_+_, _*_, _-_, _<_, _≤_};
-ghost use lib.IntN.{pos, natAbs};
+ghost use lib.IntN.{natAbs};
 ghost use lib.ListN.{length, take, drop, replicate};
 ghost use Rattle.model.specs.Model.{word};
 ghost use Rattle.model.specs.Calls.{over};
@@ -114,7 +113,7 @@ fn turn_lines(t: &[i32], z: Table, j: usize, count: usize, out: &mut [i32], at: 
     let mut rest: usize = 0;
     let mut i: usize = 0;
     while i < count {
-        out[at + i] = turn(reward_table::word_at(t, right + i), rest);
+        out[at + i] = turn(book::word_at(t, right + i), rest);
         rest = rest_after(t, left + i, rest);
         i = i + 1;
     }
