@@ -13,8 +13,8 @@ import pathlib
 import threading
 
 # of this module, as text and as the number that version() gives of the library
-VERSION_TEXT = '1.4.0'
-VERSION = 10400
+VERSION_TEXT = '1.4.1'
+VERSION = 10401
 
 BOOK_MOST = 4172
 POSTS_MOST = 64

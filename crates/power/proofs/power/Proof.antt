@@ -1,11 +1,11 @@
--- `power` meets its contract: where it returns early a test of `powerOf` fails, and else the table's rule gives the entry.
+-- `power` meets its contract: where it returns early a test of `powerOf` fails, and else all its tests hold.
 -- Assumes nothing.
+use mathlib.Core.Path.{sym, _∙_}
 use mathlib.Core.Bool.{and-false}
 use native.Mathlib.Omega.{arith}
-use borrow.Author.Needs.{needs}
 use borrow.Author.Tests.{lt-leb}
 use Rattle.model.specs.Calls.{powerOf}
-use Rattle.power.proofs.Powers.{entry, place}
+use Rattle.power.proofs.Range.{power-is}
 use Rattle.power.proofs.power.Statement.{statement}
 use Rattle.power.proofs.power.Tie as tie
 
@@ -21,20 +21,11 @@ returns-3 : tie.Need-returns-3
 unfolding powerOf
 returns-3 c = rw (lt-leb (c .before .before .before .args .e) 8 (omega arith), and-false)
 
-mul-at : tie.Need-mul-at
-mul-at c = search needs
-
-add-at : tie.Need-add-at
-add-at c = search needs
-
-mul-result : tie.Need-mul-result
-mul-result c = search needs
-
-array-read-result : tie.Need-array-read-result
-array-read-result c = search needs
-
 returns-4 : tie.Need-returns-4
-returns-4 c = let inside = array-read-result c in rw entry (place _ _ _ (omega arith) (omega arith) (omega arith) (omega arith))
+returns-4 c = c .raised .ensures ∙ sym (power-is _ _ (omega arith) (omega arith) (omega arith))
+
+raised-requires : tie.Need-raised-requires
+raised-requires c κs = (omega arith, omega arith)
 
 pub power-spec : {M : Type 1} → statement M
-power-spec = tie.close (tie.spec returns returns-2 returns-3 mul-at add-at mul-result array-read-result returns-4)
+power-spec = tie.close (tie.spec returns returns-2 returns-3 raised-requires returns-4)
