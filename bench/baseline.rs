@@ -130,6 +130,16 @@ pub fn check(words: &[i32]) -> u32 {
     checked(words).err().unwrap_or(0)
 }
 
+/// A call of its own, as the library's is.
+#[inline(never)]
+pub fn power(d: usize, e: usize) -> u64 {
+    if (1..=100).contains(&d) && e <= 8 {
+        (d as u64).pow(e as u32)
+    } else {
+        0
+    }
+}
+
 /// What is worked out once for a book.
 struct Solved {
     /// the cost of each choice with best choices ever after

@@ -335,6 +335,18 @@ fn assert_random_tables(rng: &mut Random) -> usize {
     4 * ROUNDS
 }
 
+/// How many powers were compared: those that the documents name, those beyond on both sides, and the largest numbers.
+fn assert_equal_powers() -> usize {
+    let mut compared = 0;
+    for d in (0..=102).chain([1 << 32, usize::MAX]) {
+        for e in (0..=10).chain([1 << 32, usize::MAX]) {
+            assert_eq!(kbest::power(d, e), baseline::power(d, e), "{d}^{e}");
+            compared += 1;
+        }
+    }
+    compared
+}
+
 /// Seconds of one call, by `repeats` of it.
 fn time<T>(repeats: usize, call: &mut impl FnMut() -> T) -> f64 {
     let start = Instant::now();
@@ -460,6 +472,11 @@ fn table_ratio(name: &str, table: &[i32]) {
     println!("{:28} {convert:7.2}", format!("{name}, {} lines", a[2]));
 }
 
+/// The same for a power.
+fn power_ratio(d: usize, e: usize) -> f64 {
+    ratio(|| kbest::power(black_box(d), black_box(e)), || baseline::power(black_box(d), black_box(e)))
+}
+
 /// How the time of ranking grows with K, against K = 1.
 fn growth_with_k(name: &str, book: &[i32]) {
     let (mut a, mut b) = (Room::new(), Room::new());
@@ -542,8 +559,9 @@ fn main() {
     for (_, table) in &tables {
         assert_eq!(assert_equal_books(table, kbest::BOOK_MOST).0, 0, "a timed table is accepted");
     }
-    let random = assert_random_tables(&mut rng);
-    println!("equal results on the timed books and tables, on {small} small books, in {calls} calls at a desk and on {random} random tables\n");
+    let (random, powers) = (assert_random_tables(&mut rng), assert_equal_powers());
+    println!("equal results on the timed books and tables, on {small} small books, in {calls} calls at a desk, on {random} random tables");
+    println!("and for {powers} powers\n");
 
     println!("library time / Rust time");
     println!("{:28} {:>7} {:>7} {:>7} {:>8} {:>8} {:>8} {:>8} {:>8}", "", "check", "value", "least", "rank 1", "rank 8", "rank 64", "write 64", "accept");
@@ -560,6 +578,10 @@ fn main() {
     for (name, table) in &tables {
         table_ratio(name, table);
     }
+
+    println!("\npowers, library time / Rust time");
+    println!("{:28} {:>7} {:>7} {:>7} {:>7}", "e", 0, 1, 4, 8);
+    println!("{:28} {}", "D = 100", [0, 1, 4, 8].map(|e| format!("{:7.2}", power_ratio(100, e))).join(" "));
 
     println!("\nranking, time / time for K = 1");
     println!("{:25} {}", "K", [1, 2, 4, 8, 16, 32, 64].map(|k| format!("{k:7}")).concat());
