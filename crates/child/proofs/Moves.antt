@@ -2,7 +2,7 @@
 -- Assumes nothing.
 use mathlib.Core.Path.{_≡_, refl, subst}
 use Prim.Native.Nat.{ℕ, _+_, _*_, _^_, _≤_, _<_}
-use native.Mathlib.Nat.{mul-le-mul, mul-le-mul-left, mul-le-mul-right}
+use native.Mathlib.Nat.{mul-le-mul, mul-le-mul-left, mul-le-mul-right, one-le-pow}
 use native.Mathlib.Omega.{arith}
 use lib.Dec.{lit<}
 use lib.IntN.{ℤ, pos, negsuc, natAbs, negℤ, _+ℤ_, _-ℤ_, _*ℤ_}
@@ -20,7 +20,7 @@ use Rattle.accepted.specs.Facts.{accepted}
 use Rattle.accepted.specs.Shape.{shape, togo-start, cost-bound, weights-bound}
 use Rattle.accepted.specs.Demands.{to-go-fits, through-fits}
 use Rattle.book.proofs.Words.{fits64}
-use Rattle.power.proofs.Range.{power-high, power-low}
+use Rattle.power.proofs.Range.{power-high}
 use Rattle.splits.specs.Parts.{Reaches}
 use Rattle.splits.specs.Reach.{reachWeight, reach-bound}
 use Rattle.stored.specs.Entry.{Entry}
@@ -90,7 +90,7 @@ module _ (ws : Words) (ok : bookNumber ws ≡ 0) (e : Entry) (ri : Right ws e) (
   unfolding taken
   movable =
       record {
-        weight = omega (arith, reach, mul-le-mul-left W (power-low D (togo ws p) (accepted ws ok .sizes .d-low)), power-high D (horizon ws) (accepted ws ok .sizes .d-high) (accepted ws ok .sizes .h-high));
+        weight = omega (arith, reach, mul-le-mul-left W (one-le-pow (togo ws p) D (accepted ws ok .sizes .d-low)), power-high D (horizon ws) (accepted ws ok .sizes .d-high) (accepted ws ok .sizes .h-high));
         new-size = through-fits ws ok (togo ws p) p (nextAt ws ok e ri p from) few;
         old-size = through-fits ws ok (togo ws p) p (byteAt (e .plan) p) few;
         new-part = part (nextAt ws ok e ri p from);

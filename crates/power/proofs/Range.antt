@@ -2,7 +2,7 @@
 -- Assumes nothing.
 use mathlib.Core.Path.{_≡_}
 use Prim.Native.Nat.{ℕ, _+_, _*_, _^_, _≤_}
-use native.Mathlib.Nat.{le-trans, one-le-pow, pow-suc, pow-le-pow-left, pow-le-pow-right}
+use native.Mathlib.Nat.{le-trans, pow-suc, pow-le-pow-left, pow-le-pow-right}
 use native.Mathlib.Numerals.{add-one}
 use borrow.Author.Tests.{le-leb}
 use lib.Dec.{lit≤}
@@ -15,9 +15,6 @@ power-is d h a b c = rw (le-leb 1 d a, le-leb d 100 b, le-leb h 8 c)
 pub power-high : (d h : ℕ) → d ≤ 100 → h ≤ 8 → d ^ h ≤ 10000000000000000
 power-high d h b c =
     le-trans (pow-le-pow-left {n = d} {m = 100} b h) (pow-le-pow-right {n = 100} (lit≤ tt) {i = h} {j = 8} c)
-
-pub power-low : (d h : ℕ) → 1 ≤ d → 1 ≤ d ^ h
-power-low d h a = one-le-pow h d a
 
 -- one factor more
 pub power-next : (d i : ℕ) → d ^ i * d ≡ d ^ (i + 1)

@@ -2,7 +2,7 @@
 -- Assumes nothing.
 use mathlib.Core.Path.{_≡_}
 use Prim.Native.Nat.{ℕ, _≤_, _<_}
-use native.Mathlib.Nat.{mul-le-mul-left}
+use native.Mathlib.Nat.{mul-le-mul-left, one-le-pow}
 use native.Mathlib.Decide.{decLt}
 use native.Mathlib.Omega.{arith}
 use Rattle.model.specs.Model.{Words, scale, stateCount, togo, action}
@@ -11,7 +11,7 @@ use Rattle.model.specs.Policy.{Policy}
 use Rattle.model.specs.Path.{byteAt}
 use Rattle.accepted.specs.Facts.{accepted}
 use Rattle.accepted.specs.Shape.{shape, weights-bound, togo-start}
-use Rattle.power.proofs.Range.{power-high, power-low}
+use Rattle.power.proofs.Range.{power-high}
 use Rattle.splits.specs.Reach.{weightsBefore, weights-settled, reach-bound}
 
 -- the weights by a policy before the pass comes to state p
@@ -29,7 +29,7 @@ module _ (ws : Words) (ok : bookNumber ws ≡ 0) (bs : Policy) where
       let z = accepted ws ok .sizes in
       omega (
         arith,
-        mul-le-mul-left (weights ws bs p s) (power-low (scale ws) (togo ws s) (z .d-low)),
+        mul-le-mul-left (weights ws bs p s) (one-le-pow (togo ws s) (scale ws) (z .d-low)),
         reach-bound (scale ws) (togo ws) (stateCount ws) (λ q. action ws q (byteAt bs q)) (λ q. shape ws ok .step q (byteAt bs q))
             (λ q. shape ws ok .later q (byteAt bs q)) (λ q. shape ws ok .inside q (byteAt bs q)) (λ q. weights-bound ws ok q (byteAt bs q)) p s a b,
         power-high (scale ws) (togo ws 0) (z .d-high) (omega (arith, togo-start ws ok, z .h-high)),
