@@ -2,7 +2,7 @@
 """tests/archive.py FILE..: the read-only bytes of static libraries and programs, and that none has a table of the 900 powers (request 2.6).
 
 A constant array lies in one section of data, or stands in the code as numbers that are stored one by one. So every section of data that is loaded has to be
-shorter than the table, and no power that only a table would name may stand in the code. Fails if one is found.
+shorter than the table, and no section may have a power that only a table would name, as a table in parts has too. Fails if one is found.
 """
 
 import struct
@@ -43,20 +43,18 @@ def sections(elf):
 
 
 def look(content):
-    """(bytes of code, bytes of constants, what could be or has a table) of a library or program"""
+    """(bytes of code, bytes of constants, the sections that could have a table) of a library or program"""
     code, constants, found = 0, 0, []
     for member, elf in members(content):
         for name, flags, loaded in sections(elf):
-            place = ' '.join(word for word in (member, name) if word)
-            if flags & EXECUTABLE:
+            executable, named = flags & EXECUTABLE, sum(struct.pack('<Q', power) in loaded for power in POWERS)
+            if executable:
                 code += len(loaded)
-                named = [power for power in POWERS if struct.pack('<Q', power) in loaded]
-                if named:
-                    found.append('%s: %d of %d powers in the code' % (place, len(named), len(POWERS)))
-            else:
-                constants += 0 if flags & WRITABLE else len(loaded)
-                if len(loaded) >= TABLE:
-                    found.append('%s: %d bytes of data' % (place, len(loaded)))
+            elif not flags & WRITABLE:
+                constants += len(loaded)
+            if named or not executable and len(loaded) >= TABLE:
+                kind = 'code' if executable else 'data'
+                found.append('%s, %d bytes of %s with %d of %d powers' % ((member + ' ' + name).strip(), len(loaded), kind, named, len(POWERS)))
     return code, constants, found
 
 
@@ -67,7 +65,7 @@ def main(paths):
             code, constants, found = look(f.read())
         print('%s: %d bytes of code, %d of constants' % (path, code, constants))
         for what in found:
-            print('a table of %d bytes in %s' % (TABLE, what), file=sys.stderr)
+            print('%s: a table in %s' % (path, what), file=sys.stderr)
         tables += len(found)
     return 1 if tables or not paths else 0
 

@@ -43,23 +43,31 @@ class Archive(unittest.TestCase):
             return archive.look(f.read())
 
     def test_none(self):
-        code, constants, found = self.look(LOOP, array('const', TABLE[:899]))
+        code, constants, found = self.look(LOOP, array('const', range(899)))
         self.assertEqual(found, [])
         self.assertGreater(code, 0)
         self.assertIn(constants - 899 * 8, range(200))  # and what describes the frames of the code
 
     def test_constant(self):
         code, constants, found = self.look(LOOP, array('const', TABLE))
-        self.assertEqual([what.split(': ')[1] for what in found], ['7200 bytes of data'])
+        self.assertEqual([what.split(', ')[1] for what in found], ['7200 bytes of data with 25 of 25 powers'])
         self.assertIn(constants - 900 * 8, range(200))
 
     def test_data(self):
         self.assertEqual(len(self.look(array('', TABLE), LOOP)[2]), 1)
 
+    def test_size(self):
+        found = self.look(array('const', range(900)), LOOP)[2]
+        self.assertEqual([what.split(', ')[1] for what in found], ['7200 bytes of data with 0 of 25 powers'])
+
+    def test_part(self):
+        found = self.look(array('const', TABLE[:459]), LOOP)[2]  # those of D up to 51
+        self.assertEqual([what.split(', ')[1] for what in found], ['3672 bytes of data with 1 of 25 powers'])
+
     def test_code(self):
         stores = STORES % '\n'.join('to[%d] = %dUL;' % place for place in enumerate(TABLE))
         code, constants, found = self.look(stores, LOOP)
-        self.assertEqual([what.split(': ')[1] for what in found], ['25 of 25 powers in the code'])
+        self.assertRegex(' '.join(found), r'^\S+ \S+, \d+ bytes of code with 25 of 25 powers$')
         self.assertGreater(code, 900 * 8)
 
     def test_each_object(self):
@@ -84,7 +92,7 @@ class Archive(unittest.TestCase):
         self.assertEqual(self.status()[0], 1)
         status, out, err = self.status(self.archived(array('const', TABLE)))
         self.assertEqual(status, 1)
-        self.assertRegex(err, r'^a table of 7200 bytes in \S+ \S+: 7200 bytes of data\n$')
+        self.assertRegex(err, r'^\S+all\.a: a table in 0\.o \.rodata, 7200 bytes of data with 25 of 25 powers\n$')
         with self.assertRaises(ValueError):
             archive.look(b'text')
 
