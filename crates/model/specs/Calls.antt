@@ -13,7 +13,7 @@ use Rattle.model.specs.Questions.{Question, firstNo, andThen, bookNumber
 use Rattle.model.specs.Policy.{Policy, isPolicy}
 use Rattle.model.specs.Path.{policyCost}
 use Rattle.model.specs.Order.{ranking, rankingCosts}
-use Rattle.model.specs.Record.{recordBytes, carriedCount, carriedBook, planStart, askedNumber, acceptNumber}
+use Rattle.model.specs.Record.{recordBytes, carriedCount, carriedBook, planStart, planQuestions, askedNumber, acceptNumber}
 
 -- what goes with the number 0, and what with any other
 abbrev pub ifAccepted : {A : Type 0} → ℕ → A → A → A
@@ -41,10 +41,13 @@ valueNumber ws bs = andThen (bookNumber ws) (firstNo (policyQuestions ws) bs)
 unfoldable pub valueCost : Words → Policy → ℤ
 valueCost ws bs = ifAccepted (valueNumber ws bs) (policyCost ws bs) (pos 0)
 
--- ---- least: "The least cost asks 1 to 13 alone."
+-- ---- least: "The least cost asks 1 to 13 alone." Request 2.7: then 28, "for the least cost of the book, after 13"
+
+unfoldable pub leastNumber : Words → ℕ
+leastNumber ws = andThen (bookNumber ws) (firstNo planQuestions ws)
 
 unfoldable pub leastCost : Words → ℤ
-leastCost ws = ifAccepted (bookNumber ws) (firstCost (rankingCosts ws 1)) (pos 0)
+leastCost ws = ifAccepted (leastNumber ws) (firstCost (rankingCosts ws 1)) (pos 0)
 
 -- ---- rank: "Does the lent slice of 64-bit costs have K places? 15. Does the plan slice have K × S bytes? 16."
 

@@ -1,7 +1,7 @@
 -- Tests, sums and maxima over the numbers below n, and lists. Nothing here is about tours.
 -- Assumes nothing.
 use Prim.Native.Nat.{ℕ, zero, suc, _+_, max}
-use mathlib.Core.Bool.{Bool, true, false, _&&_, _||_}
+use mathlib.Core.Bool.{Bool, true, false, _&&_, _||_, cond}
 use mathlib.Core.List.{List, [], _∷_, _++_}
 use lib.Dec.{eqb}
 
@@ -50,6 +50,20 @@ module _ {A B : Type 0} where
   forEach f (x ∷ xs) = f x ++ forEach f xs
 
 module _ {A : Type 0} where
+  abbrev pub isEmpty : List A → Bool
+  isEmpty [] = true
+  isEmpty (x ∷ xs) = false
+
+  -- the elements that pass the test
+  abbrev pub keep : (A → Bool) → List A → List A
+  keep test [] = []
+  keep test (x ∷ xs) = cond (test x) (x ∷ keep test xs) (keep test xs)
+
+  -- does each of them pass it?
+  abbrev pub every : (A → Bool) → List A → Bool
+  every test [] = true
+  every test (x ∷ xs) = test x && every test xs
+
   -- how many elements pass the test
   abbrev pub count : (A → Bool) → List A → ℕ
   count test [] = 0

@@ -3,12 +3,12 @@
 -- Document 01's terms: model = book, state = post, action = choice, transition = line (below a choice's first), policy = plan, sample path = day.
 -- Assumes nothing.
 use Prim.Native.Nat.{ℕ, zero, suc, _+_, _-_}
-use mathlib.Core.Bool.{_&&_, cond}
+use mathlib.Core.Bool.{Bool, false, not, _&&_, cond}
 use mathlib.Core.List.{List, [], _∷_, map}
-use lib.IntN.{ℤ, pos, natAbs}
-use lib.Dec.{leb, ltb}
+use lib.IntN.{ℤ, pos, negsuc, natAbs}
+use lib.Dec.{eqb, leb, ltb}
 use lib.ListN.{getD}
-use Rattle.model.specs.Lists.{sumTo, upFrom, bit}
+use Rattle.model.specs.Lists.{sumTo, upFrom, bit, keep}
 
 -- "A book is a slice of signed 32-bit words."
 abbrev pub Words : Type 0
@@ -116,6 +116,14 @@ noAction = record { cost = pos 0; transitions = [] }
 unfoldable pub action : Words → ℕ → ℕ → Action
 action ws p c = cond (ltb p (stateCount ws) && ltb c (actionCount ws p)) (readAction ws (stage ws p) (actionLine ws p c)) noAction
 
--- the actions that a policy may take at state p, lowest first
+-- Request 2.7: "A cost of 200,000 marks a choice as closed"
+abbrev pub closedMark : ℕ
+closedMark = 200000
+
+abbrev pub closed : ℤ → Bool
+closed (pos n) = eqb n closedMark
+closed (negsuc n) = false
+
+-- the actions that a policy may take at state p, lowest first: those that are not closed ("no plan takes it")
 unfoldable pub options : Words → ℕ → List ℕ
-options ws p = upFrom 0 (actionCount ws p)
+options ws p = keep (λ (c : ℕ). not (closed (action ws p c .cost))) (upFrom 0 (actionCount ws p))

@@ -76,7 +76,7 @@ inputCount input = fromBytes (take 4 (take mostInput input))
 unfoldable pub inputBook : List ℕ → Words
 inputBook input = wordsOf (length (take mostInput input) / 4 - 1) (drop 4 (take mostInput input))
 
--- 1 for any other input, else "1 to 14"
+-- 1 for any other input, else "1 to 14" and 28
 unfoldable pub inputNumber : List ℕ → ℕ
 inputNumber input = cond (wholeWords (take mostInput input)) (askedNumber (inputBook input) (inputCount input)) 1
 

@@ -2,9 +2,9 @@
 -- are reached. The walk is over any actions and options, since the laws speak of parts of a model's policies too.
 -- Assumes nothing.
 use Prim.Native.Nat.{ℕ, zero, suc}
-use mathlib.Core.Bool.{Bool, true, false, _&&_}
+use mathlib.Core.Bool.{Bool, true, false, not, _&&_}
 use mathlib.Core.List.{List, [], _∷_, _++_, map}
-use Rattle.model.specs.Lists.{isIn, forEach}
+use Rattle.model.specs.Lists.{isIn, forEach, isEmpty}
 use Rattle.model.specs.Model.{Words, Transition, Action, stateCount, action, options}
 
 -- "A plan has S bytes"
@@ -45,3 +45,7 @@ isPolicy ws bs = fits (action ws) (options ws) (stateCount ws) 0 (0 ∷ []) bs
 
 unfoldable pub policies : Words → List Policy
 policies ws = policiesFrom (action ws) (options ws) (stateCount ws) 0 (0 ∷ [])
+
+-- Request 2.7: "A plan reaching a post with every choice closed is no plan." So a book may have no plan: has it one?
+unfoldable pub hasPolicy : Words → Bool
+hasPolicy ws = not (isEmpty (policies ws))

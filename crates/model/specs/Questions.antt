@@ -1,5 +1,5 @@
 -- The questions 1 to 13 of a book. "Each is put to the whole input before the next. The first "no" gives its number; 0 means accepted."
--- Request 2.1 changes 9 and 12, request 2.3 changes 9.
+-- Request 2.1 changes 9 and 12, request 2.3 changes 9, request 2.7 changes 10 and 13.
 -- Assumes nothing.
 use Prim.Native.Nat.{ℕ, zero, suc, _+_, _*_, _^_}
 use mathlib.Core.Bool.{Bool, true, false, _&&_, _||_, cond}
@@ -9,7 +9,7 @@ use lib.Signed.{leZ, ltZ}
 use lib.Dec.{eqb, leb}
 use lib.ListN.{length}
 use Rattle.model.specs.Lists.{all, sumTo, maxTo}
-use Rattle.model.specs.Model.{Words, word, scale, horizon, lineCount, stageSize, stateCount, stage, actionCount, left, right, branches, lineAfter, stateLine, actionLine}
+use Rattle.model.specs.Model.{Words, word, scale, horizon, lineCount, stageSize, stateCount, stage, actionCount, left, right, branches, lineAfter, stateLine, actionLine, closed}
 
 -- a question has a number and is put to an input
 pub record Question (A : Type 0) : Type 0 where
@@ -53,9 +53,9 @@ mostBranches = 6
 abbrev pub branchesInside : ℤ → ℕ → ℕ → Bool
 branchesInside z n h = cond (eqb n h) (inside (pos 0) (pos 0) z) (inside (pos fewestBranches) (pos mostBranches) z)
 
--- "costs from -100,000 to 100,000"
+-- "costs from -100,000 to 100,000"; 2.7: "A cost of 200,000 marks a choice as closed: check 10 admits it"
 abbrev pub costInside : ℤ → Bool
-costInside z = inside (negsuc 99999) (pos 100000) z
+costInside z = closed z || inside (negsuc 99999) (pos 100000) z
 
 -- ---- 6 to 8: sizes
 
@@ -118,10 +118,14 @@ weightsAllowed ws n j =
 
 -- ---- 13
 
+-- a cost without its sign; 2.7: "check 13 skips it (with no open cost the largest is 0)"
+abbrev pub openSize : ℤ → ℕ
+openSize z = cond (closed z) 0 (natAbs z)
+
 -- "largest cost without its sign"
 unfoldable pub largestCost : Words → ℕ
 largestCost ws =
-    maxTo (stateCount ws) (λ (p : ℕ). maxTo (actionCount ws p) (λ (c : ℕ). natAbs (right ws (actionLine ws p c))))
+    maxTo (stateCount ws) (λ (p : ℕ). maxTo (actionCount ws p) (λ (c : ℕ). openSize (right ws (actionLine ws p c))))
 
 unfoldable pub costsBounded : Words → Bool
 costsBounded ws = leb (scale ws ^ horizon ws * (horizon ws + 1) * largestCost ws) 4000000000000000000

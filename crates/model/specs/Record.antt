@@ -9,7 +9,7 @@ use Rattle.model.specs.Lists.{forEach, same}
 use Rattle.model.specs.Bytes.{bytes, signedBytes, fromBytes, wordsOf}
 use Rattle.model.specs.Model.{Words, stateCount}
 use Rattle.model.specs.Questions.{Question, firstNo, andThen, bookNumber}
-use Rattle.model.specs.Policy.{Policy}
+use Rattle.model.specs.Policy.{Policy, hasPolicy}
 use Rattle.model.specs.Order.{ranking, rankingCosts}
 
 -- "two parallel arrays: k costs of eight bytes, two's complement, low byte first, and k plans of S bytes"
@@ -49,9 +49,13 @@ planStart bs s k j = listStart bs + 8 * k + j * s
 abbrev pub countQuestions : List (Question ℕ)
 countQuestions = record { number = 14; asks = λ k. leb 1 k && leb k 64 } ∷ []
 
--- what ranking, writing and accepting ask of a book and a count: "1 to 14"
+-- 28 of request 2.7: "Ranking, writing and accepting get 28, earlier questions passed, exactly if the book has no plan"
+abbrev pub planQuestions : List (Question Words)
+planQuestions = record { number = 28; asks = hasPolicy } ∷ []
+
+-- what ranking, writing and accepting ask of a book and a count: "1 to 14", then 28, "asked after 14 and before any slice or question 20"
 unfoldable pub askedNumber : Words → ℕ → ℕ
-askedNumber ws k = andThen (bookNumber ws) (firstNo countQuestions k)
+askedNumber ws k = andThen (bookNumber ws) (andThen (firstNo countQuestions k) (firstNo planQuestions ws))
 
 -- 19: "are there 12 bytes, is W at most 4,172, and do 4 × W bytes follow?"
 abbrev pub headQuestions : List (Question (List ℕ))
@@ -74,7 +78,7 @@ tailQuestions =
     }
     ∷ []
 
--- "Accepting a record asks: .. 19. Then 1 to 13 of the carried book, then 14 of its K, then: .. 20. .. 21."
+-- "Accepting a record asks: .. 19. Then 1 to 13 of the carried book, then 14 of its K, then: .. 20. .. 21." 28 comes after 14.
 unfoldable pub acceptNumber : List ℕ → ℕ
 acceptNumber bs =
     andThen (firstNo headQuestions bs) (andThen (askedNumber (carriedBook bs) (carriedK bs)) (firstNo tailQuestions bs))

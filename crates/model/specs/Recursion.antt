@@ -2,11 +2,13 @@
 -- laws say that they agree with the sum over paths and with the first policy.
 -- Assumes nothing.
 use Prim.Native.Nat.{ℕ, zero, suc, _^_}
-use mathlib.Core.Bool.{Bool, true, false}
+use mathlib.Core.Bool.{Bool, true, false, not}
 use mathlib.Core.List.{List, [], _∷_}
+use mathlib.Core.Option.{Option, none, some}
 use lib.IntN.{ℤ, pos, _+ℤ_, _*ℤ_}
 use lib.Signed.{leZ}
-use Rattle.model.specs.Model.{Words, Transition, Action, scale, horizon, action, options}
+use Rattle.model.specs.Lists.{isEmpty, keep, every}
+use Rattle.model.specs.Model.{Words, Transition, Action, scale, togo, action, options}
 
 -- the sum over transitions of weight × the cost-to-go `v` of the next state
 abbrev pub expected : (ℕ → ℤ) → List Transition → ℤ
@@ -37,6 +39,11 @@ module _ (f : ℕ → ℤ) where
   bestOf [] = 255
   bestOf (x ∷ xs) = firstLeast x xs
 
+  -- the least f of a list, if the list has an element
+  abbrev pub leastOf : List ℕ → Option ℤ
+  leastOf [] = none
+  leastOf (x ∷ xs) = some (f (firstLeast x xs))
+
 module _ (D : ℕ) (act : ℕ → ℕ → Action) (opts : ℕ → List ℕ) where
   -- the cost of taking action c at state p and a best action ever after
   abbrev pub through : ℕ → ℕ → ℕ → ℤ
@@ -47,6 +54,17 @@ module _ (D : ℕ) (act : ℕ → ℕ → Action) (opts : ℕ → List ℕ) wher
   abbrev pub leastToGo : ℕ → ℕ → ℤ
   leastToGo m p = through m p (bestOf (through m p) (opts p))
 
--- of a model
-unfoldable pub leastCostToGo : Words → ℤ
-leastCostToGo ws = leastToGo (scale ws) (action ws) (options ws) (horizon ws) 0
+-- Request 2.7: "The least cost of a post may therefore not exist". The options of state p, with m stages still to come, from which a policy goes on:
+-- those that lead only to states with such an option
+module _ (act : ℕ → ℕ → Action) (opts : ℕ → List ℕ) where
+  abbrev pub feasibleFrom : ℕ → ℕ → List ℕ
+  feasibleFrom zero p = opts p
+  feasibleFrom (suc m) p =
+      keep (λ (c : ℕ). every (λ (t : Transition). not (isEmpty (feasibleFrom m (t .next)))) (act p c .transitions)) (opts p)
+
+-- of a model: the feasible actions of state p, and its least cost-to-go where it has one
+unfoldable pub feasible : Words → ℕ → List ℕ
+feasible ws p = feasibleFrom (action ws) (options ws) (togo ws p) p
+
+unfoldable pub leastAt : Words → ℕ → Option ℤ
+leastAt ws p = leastOf (through (scale ws) (action ws) (feasible ws) (togo ws p) p) (feasible ws p)
