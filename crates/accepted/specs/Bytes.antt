@@ -1,4 +1,4 @@
--- The bytes of a policy: as many as there are states, each an option of its state or 255.
+-- The bytes of a policy: as many as there are states, each an option of its state, from which a policy goes on, or 255.
 -- Assumes nothing.
 use mathlib.Core.Path.{_≡_, refl}
 use mathlib.Core.Bool.{Bool, true, false}
@@ -9,12 +9,16 @@ use native.Mathlib.Omega.{arith}
 use lib.Dec.{T-not}
 use lib.ListN.{length, getD}
 use Rattle.model.specs.Lists.{isIn}
-use Rattle.model.specs.Model.{Words, stateCount}
+use Rattle.model.specs.Model.{Words, stateCount, action}
 use Rattle.model.specs.Questions.{bookNumber}
-use Rattle.model.specs.Policy.{Policy, isPolicy}
+use Rattle.model.specs.Policy.{Policy, allowed, isPolicy}
 use Rattle.model.specs.Path.{byteAt}
-use Rattle.laws.specs.Members.{isIn-in, in-isIn, true-T, false-T}
-use Rattle.accepted.specs.Options.{Option}
+use Rattle.model.specs.Recursion.{feasible}
+use Rattle.laws.specs.Members.{In, in-one, isIn-in, in-isIn, true-T, false-T}
+use Rattle.laws.specs.Policies.{reads}
+use Rattle.laws.specs.Walks.{policy-allowed}
+use Rattle.accepted.specs.Options.{Option, Feasible}
+use Rattle.accepted.specs.Shape.{shape, policy-feasible}
 use Rattle.accepted.specs.Demands.{reached, PolicyBytes, policy-bytes}
 
 -- a byte that is there is read whatever stands for a missing one
@@ -36,3 +40,14 @@ module _ (ws : Words) (ok : bookNumber ws ≡ 0) (bs : Policy) (is : isPolicy ws
       go : (b : Bool) → isIn p (reached ws bs) ≡ b → (byteAt bs p ≡ 255) ⊎ Option ws p (byteAt bs p)
       go true e = inr (bytes .at-reached p state (isIn-in p (reached ws bs) (true-T e)))
       go false e = inl (bytes .at-other p state (λ i. T-not (isIn p (reached ws bs)) (false-T e) (in-isIn p (reached ws bs) i)))
+
+  -- and each action that it takes is one from which a policy goes on
+  pub feasible-cases : (p : ℕ) → p < stateCount ws → (byteAt bs p ≡ 255) ⊎ Feasible ws p (byteAt bs p)
+  feasible-cases p state =
+      go (isIn p (reached ws bs))
+      (policy-allowed (action ws) (feasible ws) (shape ws ok .later) (byteAt bs) (stateCount ws) 0 (0 ∷ []) bs (policy-feasible ws ok bs .0 (true-T is))
+      (reads bs) p (omega arith) (omega arith))
+    where
+      go : (b : Bool) → In (byteAt bs p) (allowed (feasible ws p) b) → (byteAt bs p ≡ 255) ⊎ Feasible ws p (byteAt bs p)
+      go true i = inr i
+      go false i = inl (in-one i)

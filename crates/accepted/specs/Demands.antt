@@ -2,39 +2,43 @@
 -- that it renders.
 -- Assumes nothing.
 use mathlib.Core.Path.{_≡_, refl, sym, ap, _∙_, subst}
-use mathlib.Core.Bool.{Bool, true, false}
+use mathlib.Core.Bool.{Bool, true, false, not}
 use mathlib.Core.Logic.{_⊎_, inl, inr, _↔_}
 use mathlib.Core.List.{List, [], _∷_}
-use mathlib.Core.Option.{some}
+use mathlib.Core.Option.{none, some}
 use Prim.Native.Nat.{ℕ, suc, _+_, _*_, _-_, _^_, _≤_, _<_, min}
 use native.Mathlib.Nat.{zero-add, le-trans, mul-le-mul, mul-le-mul-right, pow-le-pow-right}
 use native.Mathlib.Decide.{decLt}
 use native.Mathlib.Omega.{arith}
+use borrow.Author.Tests.{not-true}
 use lib.Dec.{T, T-not}
-use lib.IntN.{pos, natAbs, _*ℤ_, +ℤ-idr}
+use lib.IntN.{ℤ, pos, natAbs, _*ℤ_, +ℤ-idr}
 use lib.Signed.{_≤ℤ_, _<ℤ_, ltZ, ltZ-yes, ltZ-no, ≤ℤ-refl}
-use lib.ListN.{length, getElem?, take, length-take}
+use lib.ListN.{length, getElem?, take, length-take, List·getD-eq-default}
 use lib.Seq.{ext-getD}
-use Rattle.model.specs.Lists.{count, isIn, sorted}
-use Rattle.model.specs.Model.{Words, weightsOf, scale, horizon, stateCount, togo, action, options}
-use Rattle.model.specs.Questions.{largestCost, bookNumber}
-use Rattle.model.specs.Policy.{Policy, nexts, allowed, isPolicy, policies}
+use Rattle.model.specs.Lists.{count, isIn, isEmpty, sorted}
+use Rattle.model.specs.Model.{Words, weightsOf, scale, horizon, stateCount, togo, action, closed, options}
+use Rattle.model.specs.Questions.{firstNo, largestCost, bookNumber}
+use Rattle.model.specs.Record.{planQuestions}
+use Rattle.model.specs.Policy.{Policy, nexts, allowed, isPolicy, policies, hasPolicy}
 use Rattle.model.specs.Path.{Path, pathWeight, totalWeight, byteAt, taken, paths, policyCost}
-use Rattle.model.specs.Recursion.{costToGo, through, leastToGo, leastCostToGo}
+use Rattle.model.specs.Recursion.{costToGo, bestOf, leastOf, through, leastToGo, feasible, leastAt}
 use Rattle.model.specs.Order.{lower, comesBefore, ranking, rankingCosts}
-use Rattle.model.specs.Calls.{leastCost}
+use Rattle.model.specs.Calls.{leastNumber, leastCost}
 use Rattle.laws.specs.Int.{≤ℤ-antisym}
 use Rattle.laws.specs.Members.{T-true, true-T, false-T, In, in-one, isIn-in, in-isIn, Apart, at-nexts}
+use Rattle.laws.specs.Kept.{some-in, in-some, none-in}
 use Rattle.laws.specs.Sorting.{Strict, Total, apart-take, at-in, apart-sorted, sorted-length, listed as list-entries}
 use Rattle.laws.specs.Paths.{endsAt, weight-paths, cost-paths, positive-paths, path-ends}
-use Rattle.laws.specs.Bounds.{to-go-bound, through-bound, least-bound}
+use Rattle.laws.specs.Bounds.{to-go-bound, through-bound}
 use Rattle.laws.specs.Policies.{IsPolicy, policy-length, policy-in, in-policy, policies-apart, reachedFrom, reached-mono, reads, reached-closed}
 use Rattle.laws.specs.Policies.{FirstDifference, differ}
 use Rattle.laws.specs.Order.{Low, Before, lower-is, before-is, before-cost, strict, total}
 use Rattle.laws.specs.First.{costFrom0, firstPolicy, is-policy, first-cost, cheapest, comes-first}
 use Rattle.accepted.specs.Facts.{accepted}
-use Rattle.accepted.specs.Options.{Option, Alive, option-small}
-use Rattle.accepted.specs.Shape.{policy-is, shape, lists, togo-start, weights-bound, cost-bound}
+use Rattle.accepted.specs.Options.{Option, Feasible, Alive, options-rising, option-open, option-small}
+use Rattle.accepted.specs.Shape.{policy-is, shape, lists, policy-feasible, has-alive, togo-start, weights-bound, cost-bound, cost-feasible}
+use Rattle.questions.specs.FirstNo.{passes, none as none-left}
 use Rattle.laws.specs.Entries.{in-at, some-at, map-at, take-one, count-most, count-none, by-rank}
 use Rattle.laws.specs.Walks.{policy-allowed, allowed-policy, reached-from, low-at}
 
@@ -51,7 +55,7 @@ reached ws bs = reachedFrom (action ws) 0 (0 ∷ []) bs
 
 -- the policy that takes the lowest best action at each state that it reaches
 abbrev pub bestPolicy : Words → Policy
-bestPolicy ws = firstPolicy (scale ws) (stateCount ws) (action ws) (togo ws) (options ws)
+bestPolicy ws = firstPolicy (scale ws) (stateCount ws) (action ws) (togo ws) (feasible ws)
 
 -- "A plan has S bytes: for a reached post its choice (one of that post's, counted from 0), for any other 255."
 pub record PolicyBytes (ws : Words) (bs : Policy) : Type 0 where
@@ -73,21 +77,40 @@ module _ (ws : Words) (ok : bookNumber ws ≡ 0) where
   -- none is there twice
   pub policies-once : Apart (policies ws)
   unfolding policies
-  policies-once = policies-apart (action ws) (options ws) (lists ws ok .rising) (stateCount ws) 0 (0 ∷ [])
+  policies-once = policies-apart (action ws) (options ws) (options-rising ws) (stateCount ws) 0 (0 ∷ [])
 
-  -- the policy of lowest best actions is one of them
-  pub best-policy : T (isPolicy ws (bestPolicy ws))
-  best-policy =
-      policy-is ws (bestPolicy ws) .1
-      (is-policy (scale ws) (stateCount ws) (action ws) (togo ws) (shape ws ok) (Alive ws) (options ws) (lists ws ok))
+  -- 28: "exactly if the book has no plan"
+  pub some-policy : (hasPolicy ws ≡ true) ↔ ((bs : Policy) × T (isPolicy ws bs))
+  unfolding hasPolicy
+  some-policy = (
+    λ e. let m = some-in (policies ws) (not-true (isEmpty (policies ws)) e) in (m .0, policies-are (m .0) .0 (m .1)),
+    λ b. ap not (in-some (policies ws) (b .0) (policies-are (b .0) .1 (b .1))),
+  )
+
+  pub no-policy : (hasPolicy ws ≡ false) ↔ ((bs : Policy) → T (isPolicy ws bs) → ⊥)
+  no-policy = (λ e bs t. never (sym e ∙ some-policy .1 (bs, t)), λ n. go (hasPolicy ws) refl n)
+    where
+      never : false ≡ true → ⊥
+      never e = subst T (sym e) tt
+
+      go : (b : Bool) → hasPolicy ws ≡ b → ((bs : Policy) → T (isPolicy ws bs) → ⊥) → hasPolicy ws ≡ false
+      go true e n = let b = some-policy .0 e in absurd (n (b .0) (b .1))
+      go false e n = e
+
+  -- the policy of lowest best actions is one of them, if there is one
+  pub best-policy : hasPolicy ws ≡ true → T (isPolicy ws (bestPolicy ws))
+  best-policy has =
+      policy-feasible ws ok (bestPolicy ws) .1
+      (is-policy (scale ws) (stateCount ws) (action ws) (togo ws) (shape ws ok) (Alive ws) (feasible ws) (lists ws ok (has-alive ws ok has)))
 
   -- "is k from 1 to K": there is at least one
-  pub policies-some : 0 < length (policies ws)
-  policies-some = some (policies ws) (policies-are (bestPolicy ws) .1 best-policy)
+  pub policies-some : hasPolicy ws ≡ true → 0 < length (policies ws)
+  unfolding hasPolicy
+  policies-some has = some (policies ws) (not-true (isEmpty (policies ws)) has)
     where
-      some : (xs : List Policy) → In (bestPolicy ws) xs → 0 < length xs
-      some [] i = absurd i
-      some (x ∷ xs) i = omega arith
+      some : (xs : List Policy) → isEmpty xs ≡ false → 0 < length xs
+      some [] e = absurd (subst T e tt)
+      some (x ∷ xs) e = omega arith
 
   -- ---- the states reached
 
@@ -216,20 +239,57 @@ module _ (ws : Words) (ok : bookNumber ws ≡ 0) where
     unfolding taken
     cost-from = cost-recursion ∙ ap (λ (m : ℕ). costToGo (scale ws) (taken ws bs) m 0) (sym (togo-start ws ok))
 
+  -- ---- closed actions
+
+  module _ (bs : Policy) (t : T (isPolicy ws bs)) (q : ℕ) (i : In q (reached ws bs)) where
+    -- "no plan takes it": where it reaches a state, a policy takes an open action
+    pub takes-open : closed (taken ws bs q .cost) ≡ false
+    unfolding taken
+    takes-open = option-open ws q (byteAt bs q) (policy-bytes bs .0 t .at-reached q (reached-inside bs t q i) i)
+
+    -- "A plan reaching a post with every choice closed is no plan.": a policy goes on from every state that it reaches, so it never leads to one from
+    -- which none does
+    pub reaches-alive : Alive ws q
+    reaches-alive = record {
+      state = reached-inside bs t q i;
+      some = (
+        byteAt bs q,
+        reached-closed (action ws) (feasible ws) (shape ws ok .later) (byteAt bs) (stateCount ws) 0 (0 ∷ []) bs (policy-feasible ws ok bs .0 t)
+            (reads bs) q i (omega arith) (omega (arith, reached-inside bs t q i)) .0,
+      );
+    }
+
+  -- "The least cost of a post may therefore not exist": it does where a policy goes on from the state, and nowhere else
+  pub least-exists : (p : ℕ) → Alive ws p → leastAt ws p ≡ some (leastToGo (scale ws) (action ws) (feasible ws) (togo ws p) p)
+  unfolding leastAt
+  least-exists p a = go (feasible ws p) (a .some .0) (a .some .1)
+    where
+      f : ℕ → ℤ
+      f = through (scale ws) (action ws) (feasible ws) (togo ws p) p
+
+      go : (xs : List ℕ) (c : ℕ) → In c xs → leastOf f xs ≡ some (f (bestOf f xs))
+      go [] c i = absurd i
+      go (x ∷ xs) c i = refl
+
+  pub least-missing : (p : ℕ) → p < stateCount ws → (Alive ws p → ⊥) → leastAt ws p ≡ none
+  unfolding leastAt
+  least-missing p l n =
+      ap (leastOf (through (scale ws) (action ws) (feasible ws) (togo ws p) p))
+      (none-in (feasible ws p) (λ c i. n (record { state = l; some = (c, i) })))
+
   -- "The least cost over all plans agrees with equation (5) times D^H.": this policy has that cost
-  pub best-cost : policyCost ws (bestPolicy ws) ≡ leastCostToGo ws
-  unfolding leastCostToGo
-  best-cost =
-      cost-from (bestPolicy ws) best-policy
-      ∙ first-cost (scale ws) (stateCount ws) (action ws) (togo ws) (shape ws ok) (Alive ws) (options ws) (lists ws ok)
-      ∙ ap (λ (m : ℕ). leastToGo (scale ws) (action ws) (options ws) m 0) (togo-start ws ok)
+  pub best-cost : hasPolicy ws ≡ true → policyCost ws (bestPolicy ws) ≡ leastToGo (scale ws) (action ws) (feasible ws) (togo ws 0) 0
+  best-cost has =
+      cost-from (bestPolicy ws) (best-policy has)
+      ∙ first-cost (scale ws) (stateCount ws) (action ws) (togo ws) (shape ws ok) (Alive ws) (feasible ws) (lists ws ok (has-alive ws ok has))
 
   -- and no policy costs less
-  pub least-all : (bs : Policy) → T (isPolicy ws bs) → leastCostToGo ws ≤ℤ policyCost ws bs
+  pub least-all : (bs : Policy) → T (isPolicy ws bs) → leastToGo (scale ws) (action ws) (feasible ws) (togo ws 0) 0 ≤ℤ policyCost ws bs
   least-all bs t =
-      rw (← best-cost, cost-from (bestPolicy ws) best-policy, cost-from bs t)
-      (cheapest (scale ws) (stateCount ws) (action ws) (togo ws) (shape ws ok) (Alive ws) (options ws) (lists ws ok) bs
-      (policy-is ws bs .0 t))
+      let has = some-policy .1 (bs, t) in
+      rw (← best-cost has, cost-from (bestPolicy ws) (best-policy has), cost-from bs t)
+      (cheapest (scale ws) (stateCount ws) (action ws) (togo ws) (shape ws ok) (Alive ws) (feasible ws) (lists ws ok (has-alive ws ok has)) bs
+      (policy-feasible ws ok bs .0 t))
 
   -- ---- the order
 
@@ -374,10 +434,10 @@ module _ (ws : Words) (ok : bookNumber ws ≡ 0) where
         go (no l) = let h = in-list bs .0 i in by-count bs cs (h .0) u .1 (omega arith)
 
     -- so there is a last listed one, and every policy that is not listed comes after it
-    pub rest-after-last : 0 < K → (bs : Policy) × (getElem? (ranking ws K) (length (ranking ws K) - 1) ≡ some bs)
+    pub rest-after-last : hasPolicy ws ≡ true → 0 < K → (bs : Policy) × (getElem? (ranking ws K) (length (ranking ws K) - 1) ≡ some bs)
         × ((cs : Policy) → T (isPolicy ws cs) → (In cs (ranking ws K) → ⊥) → T (comesBefore ws bs cs))
-    rest-after-last h =
-        let e = some-at (ranking ws K) (length (ranking ws K) - 1) (omega (arith, list-length, policies-some)) in
+    rest-after-last has h =
+        let e = some-at (ranking ws K) (length (ranking ws K) - 1) (omega (arith, list-length, policies-some has)) in
         (e .0, e .1, λ cs u n. rest-after (e .0) cs (at-in (ranking ws K) (length (ranking ws K) - 1) (e .0) (e .1)) u n)
 
     -- "fewer than K": a list that is shorter than K holds every policy
@@ -386,9 +446,9 @@ module _ (ws : Words) (ok : bookNumber ws ≡ 0) where
 
   -- ---- the first policy
 
-  none-before : (bs : Policy) → T (isPolicy ws bs) → comesBefore ws bs (bestPolicy ws) ≡ false
+  none-before : hasPolicy ws ≡ true → (bs : Policy) → T (isPolicy ws bs) → comesBefore ws bs (bestPolicy ws) ≡ false
   unfolding comesBefore
-  none-before bs t = go (comesBefore ws bs (bestPolicy ws)) refl
+  none-before has bs t = go (comesBefore ws bs (bestPolicy ws)) refl
     where
       G : Policy
       G = bestPolicy ws
@@ -397,10 +457,10 @@ module _ (ws : Words) (ok : bookNumber ws ≡ 0) where
       never h = subst T (order-irreflexive G) h
 
       cheap : T (comesBefore ws bs G) → costFrom0 (scale ws) (action ws) (togo ws) bs ≤ℤ costFrom0 (scale ws) (action ws) (togo ws) G
-      cheap h = rw (← cost-from bs t, ← cost-from G best-policy) (before-cost (policyCost ws) bs G h)
+      cheap h = rw (← cost-from bs t, ← cost-from G (best-policy has)) (before-cost (policyCost ws) bs G h)
 
       ahead : T (lower G bs) → T (comesBefore ws G bs)
-      ahead l = before-is (policyCost ws) G bs .1 (inr (rw best-cost (least-all bs t), lower-is G bs .0 l))
+      ahead l = before-is (policyCost ws) G bs .1 (inr (rw (best-cost has) (least-all bs t), lower-is G bs .0 l))
 
       clash : T (comesBefore ws bs G) → (G ≡ bs) ⊎ T (lower G bs) → ⊥
       clash h (inl e) = never (subst (λ (x : Policy). T (comesBefore ws x G)) (sym e) h)
@@ -409,30 +469,38 @@ module _ (ws : Words) (ok : bookNumber ws ≡ 0) where
       go : (b : Bool) → comesBefore ws bs G ≡ b → comesBefore ws bs G ≡ false
       go true e =
           absurd (clash (true-T e)
-          (comes-first (scale ws) (stateCount ws) (action ws) (togo ws) (shape ws ok) (Alive ws) (options ws) (lists ws ok) bs
-          (policy-is ws bs .0 t) (cheap (true-T e))))
+          (comes-first (scale ws) (stateCount ws) (action ws) (togo ws) (shape ws ok) (Alive ws) (feasible ws) (lists ws ok (has-alive ws ok has)) bs
+          (policy-feasible ws ok bs .0 t) (cheap (true-T e))))
       go false e = e
 
   -- the first policy takes the lowest best action at each state that it reaches
-  pub first-policy : ranking ws 1 ≡ bestPolicy ws ∷ []
+  pub first-policy : hasPolicy ws ≡ true → ranking ws 1 ≡ bestPolicy ws ∷ []
   unfolding ranking
-  first-policy =
+  first-policy has =
       take-one (sorted (comesBefore ws) (policies ws)) (bestPolicy ws)
       (listed 1 0 (bestPolicy ws) .1 (
-        best-policy,
+        best-policy has,
         count-none (λ q. comesBefore ws q (bestPolicy ws)) (policies ws)
-            (λ bs i. none-before bs (policies-are bs .0 i)),
+            (λ bs i. none-before has bs (policies-are bs .0 i)),
         omega arith,
       ))
 
+  best-least : hasPolicy ws ≡ true → leastAt ws 0 ≡ some (policyCost ws (bestPolicy ws))
+  best-least has = least-exists 0 (has-alive ws ok has) ∙ ap (λ (z : ℤ). some z) (sym (best-cost has))
+
   -- the least cost is that of the first policy, and agrees with equation (5) times D^H
-  pub least-first : (bs : Policy) × (ranking ws 1 ≡ bs ∷ []) × (policyCost ws bs ≡ leastCostToGo ws)
-  least-first = (bestPolicy ws, first-policy, best-cost)
+  pub least-first : hasPolicy ws ≡ true → (bs : Policy) × (ranking ws 1 ≡ bs ∷ []) × (leastAt ws 0 ≡ some (policyCost ws bs))
+  least-first has = (bestPolicy ws, first-policy has, best-least has)
 
   -- "the least cost that of the first plan"
-  pub least-call : leastCost ws ≡ leastCostToGo ws
-  unfolding leastCost rankingCosts
-  least-call = rw (ok, first-policy) best-cost
+  pub least-value : hasPolicy ws ≡ true → leastCost ws ≡ leastToGo (scale ws) (action ws) (feasible ws) (togo ws 0) 0
+  unfolding leastCost leastNumber rankingCosts
+  least-value has =
+      let e : firstNo planQuestions ws ≡ 0 = passes ws _ [] has ∙ none-left ws in
+      rw (ok, e, first-policy has) (best-cost has)
+
+  pub least-call : hasPolicy ws ≡ true → leastAt ws 0 ≡ some (leastCost ws)
+  least-call has = least-exists 0 (has-alive ws ok has) ∙ ap (λ (z : ℤ). some z) (sym (least-value has))
 
   -- ---- bounds
 
@@ -441,22 +509,36 @@ module _ (ws : Words) (ok : bookNumber ws ≡ 0) where
       le-trans (mul-le-mul-right (largestCost ws) (mul-le-mul (pow-le-pow-right (accepted ws ok .sizes .d-low) h) (omega arith)))
       (accepted ws ok .product-bounded)
 
-  -- "Is D^H × (H + 1) × (largest cost without its sign) at most 4 × 10^18?": no figure of the recursions is larger, at any state and with at most H
-  -- stages still to come, and no policy's cost is
-  pub to-go-fits : (bs : Policy) (m p : ℕ) → m ≤ horizon ws → natAbs (costToGo (scale ws) (taken ws bs) m p) ≤ 4000000000000000000
+  -- what a policy takes at any state is an option, or none
+  policy-takes : (bs : Policy) → T (isPolicy ws bs) → (q : ℕ) → (byteAt bs q ≡ 255) ⊎ Option ws q (byteAt bs q)
+  policy-takes bs t q = go (decLt q (stateCount ws)) (isIn q (reached ws bs)) refl
+    where
+      is : PolicyBytes ws bs
+      is = policy-bytes bs .0 t
+
+      go : Dec (q < stateCount ws) → (b : Bool) → isIn q (reached ws bs) ≡ b → (byteAt bs q ≡ 255) ⊎ Option ws q (byteAt bs q)
+      go (yes l) true e = inr (is .at-reached q l (isIn-in q (reached ws bs) (true-T e)))
+      go (yes l) false e = inl (is .at-other q l (λ i. T-not (isIn q (reached ws bs)) (false-T e) (in-isIn q (reached ws bs) i)))
+      go (no n) b e = inl (List·getD-eq-default bs 255 {n = q} (omega (arith, is .long)))
+
+  pub to-go-most : (bs : Policy) → T (isPolicy ws bs) → (m p : ℕ) → natAbs (costToGo (scale ws) (taken ws bs) m p) ≤ scale ws ^ m * (m + 1) * largestCost ws
   unfolding taken
-  to-go-fits bs m p h =
-      le-trans
-      (to-go-bound (scale ws) (largestCost ws) (taken ws bs) (λ q. cost-bound ws ok q (byteAt bs q)) (λ q. weights-bound ws ok q (byteAt bs q)) m p)
-      (most-fits m h)
+  to-go-most bs t =
+      to-go-bound (scale ws) (largestCost ws) (taken ws bs) (λ q. cost-bound ws ok q (byteAt bs q) (policy-takes bs t q))
+      (λ q. weights-bound ws ok q (byteAt bs q))
 
-  pub through-fits : (m p c : ℕ) → m ≤ horizon ws → natAbs (through (scale ws) (action ws) (options ws) m p c) ≤ 4000000000000000000
-  through-fits m p c h =
-      le-trans (through-bound (scale ws) (largestCost ws) (action ws) (options ws) (cost-bound ws ok) (weights-bound ws ok) m p c) (most-fits m h)
+  pub through-most : (m p c : ℕ) → (c ≡ 255) ⊎ Feasible ws p c
+      → natAbs (through (scale ws) (action ws) (feasible ws) m p c) ≤ scale ws ^ m * (m + 1) * largestCost ws
+  through-most = through-bound (scale ws) (largestCost ws) (action ws) (feasible ws) (cost-feasible ws ok) (weights-bound ws ok)
 
-  pub least-fits : (m p : ℕ) → m ≤ horizon ws → natAbs (leastToGo (scale ws) (action ws) (options ws) m p) ≤ 4000000000000000000
-  least-fits m p h =
-      le-trans (least-bound (scale ws) (largestCost ws) (action ws) (options ws) (cost-bound ws ok) (weights-bound ws ok) m p) (most-fits m h)
+  -- "Is D^H × (H + 1) × (largest cost without its sign) at most 4 × 10^18?": no figure of the recursions is larger, of the actions of a policy or of
+  -- those from which one goes on, with at most H stages still to come, and no policy's cost is
+  pub to-go-fits : (bs : Policy) → T (isPolicy ws bs) → (m p : ℕ) → m ≤ horizon ws → natAbs (costToGo (scale ws) (taken ws bs) m p) ≤ 4000000000000000000
+  to-go-fits bs t m p h = le-trans (to-go-most bs t m p) (most-fits m h)
+
+  pub through-fits : (m p c : ℕ) → (c ≡ 255) ⊎ Feasible ws p c → m ≤ horizon ws
+      → natAbs (through (scale ws) (action ws) (feasible ws) m p c) ≤ 4000000000000000000
+  through-fits m p c t h = le-trans (through-most m p c t) (most-fits m h)
 
   pub cost-fits : (bs : Policy) → T (isPolicy ws bs) → natAbs (policyCost ws bs) ≤ 4000000000000000000
-  cost-fits bs t = rw (cost-recursion bs t) (to-go-fits bs (horizon ws) 0 (omega arith))
+  cost-fits bs t = rw (cost-recursion bs t) (to-go-fits bs t (horizon ws) 0 (omega arith))

@@ -7,12 +7,11 @@ use native.Mathlib.Nat.{le-trans}
 use native.Mathlib.Omega.{arith}
 use borrow.Author.Tests.{leb-true, eq-eqb, ne-eqb}
 use lib.Dec.{leb, eqb}
-use lib.IntN.{natAbs}
 use Rattle.model.specs.Lists.{all, maxTo}
 use Rattle.model.specs.Model.{Words, word, scale, horizon, lineCount, stateCount, stage, actionCount, left, right}
 use Rattle.model.specs.Model.{branches, lineAfter, stateLine, actionLine}
 use Rattle.model.specs.Questions.{firstNo, mostLast, mostAt, fewestBranches, mostBranches, branchesInside, countAllowed, countsAllowed, everyAction}
-use Rattle.model.specs.Questions.{branchesAllowed, linesAllowed, nextsAllowed, weightsAllowed, largestCost, costsBounded, sizeQuestions, actionQuestions, bookNumber}
+use Rattle.model.specs.Questions.{branchesAllowed, linesAllowed, nextsAllowed, weightsAllowed, openSize, largestCost, costsBounded, sizeQuestions, actionQuestions, bookNumber}
 use Rattle.questions.specs.Ranges.{and-true, all-at, all-same, max-least, inside-range}
 use Rattle.questions.specs.FirstNo.{AllYes, passed, both-zero}
 use Rattle.questions.specs.Sizes.{Sized, sized}
@@ -33,7 +32,7 @@ pub record Accepted (ws : Words) : Type 0 where
   -- 12: "Is every weight from 1 to D", and do each choice's add "to at most D" (before stage H)?
   pub weights-allowed : (p c : ℕ) → p < stateCount ws → c < actionCount ws p → weightsAllowed ws (stage ws p) (actionLine ws p c) ≡ true
   -- 13: "Is D^H × (H + 1) × (largest cost without its sign) at most 4 × 10^18?"
-  pub cost-bounded : (p c : ℕ) → p < stateCount ws → c < actionCount ws p → natAbs (right ws (actionLine ws p c)) ≤ largestCost ws
+  pub cost-bounded : (p c : ℕ) → p < stateCount ws → c < actionCount ws p → openSize (right ws (actionLine ws p c)) ≤ largestCost ws
   pub product-bounded : scale ws ^ horizon ws * (horizon ws + 1) * largestCost ws ≤ 4000000000000000000
 
 -- ---- 8
@@ -91,11 +90,11 @@ lines-say ws e = and-true (everyAction branchesAllowed ws) (eqb (stateLine ws (s
 
 -- ---- 13
 
-largest : (ws : Words) (p c : ℕ) → p < stateCount ws → c < actionCount ws p → natAbs (right ws (actionLine ws p c)) ≤ largestCost ws
+largest : (ws : Words) (p c : ℕ) → p < stateCount ws → c < actionCount ws p → openSize (right ws (actionLine ws p c)) ≤ largestCost ws
 unfolding largestCost
 largest ws p c l k =
-    le-trans (max-least (actionCount ws p) (λ (c : ℕ). natAbs (right ws (actionLine ws p c))) c k)
-    (max-least (stateCount ws) (λ (p : ℕ). maxTo (actionCount ws p) (λ (c : ℕ). natAbs (right ws (actionLine ws p c)))) p l)
+    le-trans (max-least (actionCount ws p) (λ (c : ℕ). openSize (right ws (actionLine ws p c))) c k)
+    (max-least (stateCount ws) (λ (p : ℕ). maxTo (actionCount ws p) (λ (c : ℕ). openSize (right ws (actionLine ws p c)))) p l)
 
 product : (ws : Words) → costsBounded ws ≡ true → scale ws ^ horizon ws * (horizon ws + 1) * largestCost ws ≤ 4000000000000000000
 unfolding costsBounded

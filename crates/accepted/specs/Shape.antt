@@ -2,28 +2,31 @@
 -- are bounded as they ask.
 -- Assumes nothing.
 use mathlib.Core.Path.{_≡_, refl, sym, ap, _∙_, subst}
-use mathlib.Core.Bool.{Bool, true, false, _&&_, _||_, cond}
-use mathlib.Core.Logic.{_⊎_, inl, inr, _↔_}
+use mathlib.Core.Bool.{Bool, true, false, not, _&&_, _||_, cond}
+use mathlib.Core.Logic.{_⊎_, inl, inr, ⊎-elim, _↔_}
 use mathlib.Core.List.{[], _∷_, map}
 use Prim.Native.Nat.{ℕ, zero, suc, _+_, _-_, _≤_, _<_}
-use native.Mathlib.Nat.{eq-or-lt-of-le, add-zero}
+use native.Mathlib.Nat.{eq-or-lt-of-le, add-zero, zero-add}
 use native.Mathlib.Omega.{arith}
-use borrow.Author.Tests.{ltb-true, leb-true, lt-ltb, ne-eqb}
+use borrow.Author.Tests.{ltb-true, leb-true, lt-ltb, ne-eqb, not-true}
 use lib.Dec.{T, eqb, leb, ltb}
 use lib.IntN.{ℤ, pos, negsuc, natAbs}
 use lib.Signed.{leZ, ltZ}
-use Rattle.model.specs.Lists.{all, sumTo, upFrom}
+use Rattle.model.specs.Lists.{all, sumTo, upFrom, isEmpty}
 use Rattle.model.specs.Model.{Words, Transition, Action, weightsOf, scale, horizon, stageSize, firstState, stateCount, stage, togo, actionCount, left, right}
-use Rattle.model.specs.Model.{branches, actionLine, transitionAt, readAction, noAction, action, options}
+use Rattle.model.specs.Model.{branches, actionLine, transitionAt, readAction, noAction, action, closed, options}
 use Rattle.model.specs.Questions.{inside, nextBefore, nextsAllowed, weightSum, weightsAllowed, largestCost, bookNumber}
-use Rattle.model.specs.Policy.{Policy, isPolicy}
-use Rattle.laws.specs.Members.{In, Every, in-every, every-imp, in-map, upFrom-in, AtNexts}
-use Rattle.laws.specs.Policies.{IsPolicy, fits-is}
+use Rattle.model.specs.Policy.{Policy, policiesFrom, isPolicy, policies, hasPolicy}
+use Rattle.model.specs.Recursion.{feasible}
+use Rattle.laws.specs.Members.{T-true, true-T, false-T, same-test, In, Every, in-every, every-imp, every-both, in-map, upFrom-in, AtNexts}
+use Rattle.laws.specs.Policies.{IsPolicy, fits-is, policy-in, in-policy}
 use Rattle.laws.specs.First.{Shape, Lists}
+use Rattle.laws.specs.Kept.{some-in, in-some}
+use Rattle.laws.specs.Feasible.{feasible-is, keeps, same-policies, goes-on-is}
 use Rattle.questions.specs.Ranges.{and-true, all-at, sum-same, inside-range}
 use Rattle.questions.specs.Stages.{OfStage, stage-is, of-stage, first-mono, first-step, first-zero}
 use Rattle.accepted.specs.Facts.{Accepted, accepted}
-use Rattle.accepted.specs.Options.{Alive, options-rising, state-alive}
+use Rattle.accepted.specs.Options.{Option, Feasible, Alive, option-open, to-option, lists-rising}
 
 -- a sum by its first term
 sum-front : (n : ℕ) (f : ℕ → ℕ) → sumTo (suc n) f ≡ f 0 + sumTo n (λ (i : ℕ). f (suc i))
@@ -215,13 +218,70 @@ module _ (ws : Words) (ok : bookNumber ws ≡ 0) where
     bare = no-action;
   }
 
-  pub lists : Lists (Alive ws) (action ws) (options ws)
-  lists = record {
-    rising = options-rising ws;
-    first-alive = state-alive ws ok 0 some-state;
+  -- ---- the actions from which a policy goes on
+
+  -- a feasible action leads to states from which a policy goes on
+  pub nexts-alive : (p c : ℕ) → Feasible ws p c → AtNexts (Alive ws) (action ws p c .transitions)
+  unfolding feasible
+  nexts-alive p c i =
+      every-both (λ t l g. record { state = l; some = g }) (action ws p c .transitions) (shape .inside p c)
+      (feasible-is (stateCount ws) (action ws) (togo ws) shape (options ws) p c .0 i .1)
+
+  -- an option that leads to such states alone is one
+  pub alive-feasible : (p c : ℕ) → Option ws p c → AtNexts (Alive ws) (action ws p c .transitions) → Feasible ws p c
+  unfolding feasible
+  alive-feasible p c o h =
+      feasible-is (stateCount ws) (action ws) (togo ws) shape (options ws) p c .1 (o, every-imp (λ t a. a .some) (action ws p c .transitions) h)
+
+  pub lists : Alive ws 0 → Lists (Alive ws) (action ws) (feasible ws)
+  lists first = record {
+    rising = lists-rising ws;
+    first-alive = first;
     some-action = λ p a. a .some;
-    stays-alive = λ p c a o. every-imp (λ t l. state-alive ws ok (t .next) l) (action ws p c .transitions) (shape .inside p c);
+    stays-alive = λ p c a o. nexts-alive p c o;
   }
+
+  -- "no plan takes it": the policies that keep to feasible actions are the model's policies
+  pub policies-feasible : policies ws ≡ policiesFrom (action ws) (feasible ws) (stateCount ws) 0 (0 ∷ [])
+  unfolding policies feasible
+  policies-feasible = sym (same-policies (stateCount ws) (action ws) (togo ws) shape (options ws) (stateCount ws) 0 (0 ∷ []) (zero-add (stateCount ws)))
+
+  pub policy-feasible : (bs : Policy) → T (isPolicy ws bs) ↔ IsPolicy (action ws) (feasible ws) (stateCount ws) 0 (0 ∷ []) bs
+  unfolding policies feasible
+  policy-feasible bs = (
+    λ t. in-policy (action ws) (feasible ws) (stateCount ws) 0 (0 ∷ []) bs
+        (subst (In bs) policies-feasible (policy-in (action ws) (options ws) (stateCount ws) 0 (0 ∷ []) bs (policy-is ws bs .0 t))),
+    λ i. policy-is ws bs .1 (keeps (stateCount ws) (action ws) (togo ws) shape (options ws) (stateCount ws) 0 (0 ∷ []) bs i),
+  )
+
+  -- a policy goes on from state p exactly if there is a policy of the states from p on that reaches p
+  pub alive-is : (p : ℕ) → p < stateCount ws
+      → Alive ws p ↔ ((bs : Policy) × IsPolicy (action ws) (options ws) (stateCount ws - p) p (p ∷ []) bs)
+  unfolding feasible
+  alive-is p l =
+      let g = goes-on-is (stateCount ws) (action ws) (togo ws) shape (options ws) p l in
+      (λ a. g .0 (a .some), λ b. record { state = l; some = g .1 b })
+
+  -- 28: the book has a policy exactly if one goes on from state 0
+  pub has-alive : hasPolicy ws ≡ true → Alive ws 0
+  unfolding hasPolicy policies
+  has-alive e =
+      let m = some-in (policies ws) (not-true (isEmpty (policies ws)) e) in
+      let all : stateCount ws - 0 ≡ stateCount ws = omega arith in
+      alive-is 0 some-state .1 (m .0, rw all (in-policy (action ws) (options ws) (stateCount ws) 0 (0 ∷ []) (m .0) (m .1)))
+
+  pub alive-has : Alive ws 0 → hasPolicy ws ≡ true
+  unfolding hasPolicy policies
+  alive-has a =
+      let b = alive-is 0 some-state .0 a in
+      let all : stateCount ws - 0 ≡ stateCount ws = omega arith in
+      ap not (in-some (policies ws) (b .0) (policy-in (action ws) (options ws) (stateCount ws) 0 (0 ∷ []) (b .0) (rw all at (b .1))))
+
+  pub has-is : hasPolicy ws ≡ not (isEmpty (feasible ws 0))
+  has-is =
+      same-test (hasPolicy ws) (not (isEmpty (feasible ws 0)))
+      (λ t. let a = has-alive (T-true (hasPolicy ws) t) in false-T (in-some (feasible ws 0) (a .some .0) (a .some .1)))
+      (λ t. true-T (alive-has (record { state = some-state; some = some-in (feasible ws 0) (not-true (isEmpty (feasible ws 0)) (T-true _ t)) })))
 
   -- "a choice's weights as adding to at most D": of any state and action
   pub weights-bound : (p c : ℕ) → weightsOf (action ws p c .transitions) ≤ scale ws
@@ -234,7 +294,19 @@ module _ (ws : Words) (ok : bookNumber ws ≡ 0) where
       go l k (inl e) = omega (arith, no-weight ws (actionLine ws p c) (facts .branches-last p c l k e))
       go l k (inr h) = omega (arith, weight-sum ws (stage ws p) (actionLine ws p c) (facts .weights-allowed p c l k) h)
 
-  -- and the cost is at most the largest
-  pub cost-bound : (p c : ℕ) → natAbs (action ws p c .cost) ≤ largestCost ws
+  -- and the cost of one that a policy may take, or of none, is at most the largest
+  open-bound : (p c : ℕ) → closed (action ws p c .cost) ≡ false → natAbs (action ws p c .cost) ≤ largestCost ws
   unfolding readAction
-  cost-bound p c = by-action ws (λ (a : Action). natAbs (a .cost) ≤ largestCost ws) p c (omega arith) (facts .cost-bounded p c)
+  open-bound p c =
+      by-action ws (λ (a : Action). closed (a .cost) ≡ false → natAbs (a .cost) ≤ largestCost ws) p c (λ e. omega arith)
+      (λ l k e. rw e at (facts .cost-bounded p c l k))
+
+  pub cost-bound : (p c : ℕ) → (c ≡ 255) ⊎ Option ws p c → natAbs (action ws p c .cost) ≤ largestCost ws
+  cost-bound p c (inl e) =
+      subst (λ (b : ℕ). natAbs (action ws p b .cost) ≤ largestCost ws) (sym e)
+      (by-action ws (λ (a : Action). natAbs (a .cost) ≤ largestCost ws) p 255 (omega arith) (λ l k. absurd (omega (arith, facts .counts-high p l))))
+  cost-bound p c (inr o) = open-bound p c (option-open ws p c o)
+
+  -- of what a policy takes at any state
+  pub cost-feasible : (p c : ℕ) → (c ≡ 255) ⊎ Feasible ws p c → natAbs (action ws p c .cost) ≤ largestCost ws
+  cost-feasible p c t = cost-bound p c (⊎-elim inl (λ i. inr (to-option ws p c i)) t)

@@ -2,6 +2,7 @@
 -- D^m × (m + 1) × C, where m stages are still to come.
 -- Assumes nothing.
 use mathlib.Core.Path.{_≡_}
+use mathlib.Core.Logic.{_⊎_}
 use mathlib.Core.List.{List, [], _∷_}
 use Prim.Native.Nat.{ℕ, zero, suc, _+_, _*_, _^_, _≤_}
 use native.Mathlib.Nat.{le-trans, add-le-add, mul-le-mul-left, mul-le-mul-right, pow-suc, pow-zero}
@@ -10,6 +11,8 @@ use lib.IntN.{ℤ, pos, natAbs, _+ℤ_, _*ℤ_}
 use Rattle.model.specs.Model.{Transition, Action, weightsOf}
 use Rattle.model.specs.Recursion.{expected, actionCost, costToGo, bestOf, through, leastToGo}
 use Rattle.laws.specs.Int.{abs-add, abs-mul}
+use Rattle.laws.specs.Members.{In}
+use Rattle.laws.specs.Best.{best-cases}
 
 -- a weight times an integer, and such a product with another integer added
 weighted : (w : ℕ) (z : ℤ) (B : ℕ) → natAbs z ≤ B → natAbs (pos w *ℤ z) ≤ w * B
@@ -48,14 +51,19 @@ module _ (D C : ℕ) where
   to-go-bound taken c w zero p = rw (← most-zero) (c p)
   to-go-bound taken c w (suc m) p = action-bound m (costToGo D taken m) (taken p) (to-go-bound taken c w m) (c p) (w p)
 
-  module _ (act : ℕ → ℕ → Action) (opts : ℕ → List ℕ) (c : (p a : ℕ) → natAbs (act p a .cost) ≤ C)
-      (w : (p a : ℕ) → weightsOf (act p a .transitions) ≤ D) where
-    -- of taking action a at state p and a best action ever after
-    pub through-bound : (m p a : ℕ) → natAbs (through D act opts m p a) ≤ D ^ m * (m + 1) * C
-    through-bound zero p a = rw (← most-zero) (c p a)
-    through-bound (suc m) p a =
-        action-bound m (leastToGo D act opts m) (act p a) (λ q. through-bound m q (bestOf (through D act opts m q) (opts q))) (c p a) (w p a)
+  module _ (act : ℕ → ℕ → Action) (opts : ℕ → List ℕ) where
+    -- an action of the list, or none
+    abbrev pub Taken : ℕ → ℕ → Type 0
+    Taken p a = (a ≡ 255) ⊎ In a (opts p)
 
-    -- of the least cost-to-go
-    pub least-bound : (m p : ℕ) → natAbs (leastToGo D act opts m p) ≤ D ^ m * (m + 1) * C
-    least-bound m p = through-bound m p (bestOf (through D act opts m p) (opts p))
+    module _ (c : (p a : ℕ) → Taken p a → natAbs (act p a .cost) ≤ C) (w : (p a : ℕ) → weightsOf (act p a .transitions) ≤ D) where
+      -- of taking action a at state p and a best action ever after
+      pub through-bound : (m p a : ℕ) → Taken p a → natAbs (through D act opts m p a) ≤ D ^ m * (m + 1) * C
+      through-bound zero p a t = rw (← most-zero) (c p a t)
+      through-bound (suc m) p a t =
+          action-bound m (leastToGo D act opts m) (act p a)
+          (λ q. through-bound m q (bestOf (through D act opts m q) (opts q)) (best-cases (through D act opts m q) (opts q))) (c p a t) (w p a)
+
+      -- of the least cost-to-go
+      pub least-bound : (m p : ℕ) → natAbs (leastToGo D act opts m p) ≤ D ^ m * (m + 1) * C
+      least-bound m p = through-bound m p (bestOf (through D act opts m p) (opts p)) (best-cases (through D act opts m p) (opts p))

@@ -1,5 +1,6 @@
 pub mod Int
 pub mod Members
+pub mod Kept
 pub mod Sorting
 pub mod Paths
 pub mod Raises
@@ -11,6 +12,7 @@ pub mod Ranks
 pub mod Order
 pub mod Greedy
 pub mod First
+pub mod Feasible
 pub mod Entries
 pub mod Walks
 pub mod Joined

@@ -2,7 +2,7 @@
 -- bits for the states of a model.
 -- Assumes nothing.
 use mathlib.Core.Path.{_≡_, refl, sym, ap, ap₂, _∙_}
-use mathlib.Core.Bool.{Bool, true, false, cond, _||_}
+use mathlib.Core.Bool.{Bool, true, false, not, cond, _||_, _&&_}
 use mathlib.Core.Logic.{inl, inr}
 use mathlib.Core.List.{List, [], _∷_, _++_}
 use Prim.Native.Nat.{ℕ, zero, suc, _+_, _*_, _/_, _%_, _^_, _<_}
@@ -10,8 +10,9 @@ use native.Mathlib.Nat.{zero-div, div-one, div-eq-of-lt, mod-eq-of-lt, mul-div-m
 use native.Mathlib.Omega.{arith}
 use lib.Bits.{bitOr, or-shr, or-mod}
 use lib.Dec.{eqb, eqb·zero-suc, eqb·suc-zero, eqb·suc-suc}
-use Rattle.model.specs.Lists.{isIn}
+use Rattle.model.specs.Lists.{isIn, keep}
 use Rattle.laws.specs.Members.{In}
+use Rattle.laws.specs.Kept.{keep-keep, keep-same}
 
 -- is q in the set?
 abbrev pub has : ℕ → ℕ → Bool
@@ -87,6 +88,40 @@ has-with m q k = has-union m (2 ^ q) k ∙ ap (λ (b : Bool). has m k || b) (has
 pub free-all : (xs : List ℕ) → free 0 xs ≡ xs
 free-all [] = refl
 free-all (x ∷ xs) = rw (has-none x, free-all xs)
+
+-- it is what passes the test
+pub free-keep : (m : ℕ) (xs : List ℕ) → free m xs ≡ keep (λ (x : ℕ). not (has m x)) xs
+free-keep m [] = refl
+free-keep m (x ∷ xs) = go (has m x) (free-keep m xs)
+  where
+    go : (b : Bool) → free m xs ≡ keep (λ (x : ℕ). not (has m x)) xs
+        → cond b (free m xs) (x ∷ free m xs)
+        ≡ cond (not b) (x ∷ keep (λ (x : ℕ). not (has m x)) xs) (keep (λ (x : ℕ). not (has m x)) xs)
+    go true ih = ih
+    go false ih = ap (λ (ys : List ℕ). x ∷ ys) ih
+
+-- what is in either of two sets is left by neither
+free-both : (m n k : ℕ) → ((x : ℕ) → has k x ≡ (has m x || has n x)) → (xs : List ℕ) → free k xs ≡ free m (free n xs)
+free-both m n k h xs =
+    free-keep k xs
+    ∙ keep-same (λ (x : ℕ). not (has k x)) (λ (x : ℕ). not (has n x) && not (has m x)) xs (λ x i. ap not (h x) ∙ neither (has m x) (has n x))
+    ∙ sym (keep-keep (λ (x : ℕ). not (has n x)) (λ (x : ℕ). not (has m x)) xs)
+    ∙ ap (keep (λ (x : ℕ). not (has m x))) (sym (free-keep n xs)) ∙ sym (free-keep m (free n xs))
+  where
+    neither : (a b : Bool) → not (a || b) ≡ (not b && not a)
+    neither true true = refl
+    neither true false = refl
+    neither false true = refl
+    neither false false = refl
+
+pub free-union : (m n : ℕ) (xs : List ℕ) → free (union m n) xs ≡ free m (free n xs)
+free-union m n xs = free-both m n (union m n) (has-union m n) xs
+
+pub free-with : (m c : ℕ) (xs : List ℕ) → free (with m c) xs ≡ free (with 0 c) (free m xs)
+free-with m c xs =
+    free-both (with 0 c) m (with m c)
+    (λ x. has-with m c x ∙ ap (λ (b : Bool). b || has m x) (sym (has-with 0 c x ∙ ap (λ (b : Bool). eqb x c || b) (has-none x) ∙ or-swap (eqb x c) false)))
+    xs
 
 -- what is left is of the list
 pub free-in : (m c : ℕ) (xs : List ℕ) → In c (free m xs) → In c xs

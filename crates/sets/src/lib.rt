@@ -19,6 +19,20 @@ pub fn with8(set: u8, c: u8) -> u8
     set | (1 << c)
 }
 
+// The actions of either set.
+pub fn union8(a: u8, b: u8) -> u8
+    ensures { λ r. ⌜ r ≡ union a b ⌝ }
+{
+    a | b
+}
+
+// A set of actions in a wider number.
+pub fn wide8(set: u8) -> usize
+    ensures { λ r. ⌜ (r ≡ set) × (r < 256) ⌝ }
+{
+    set as usize
+}
+
 // Is state q in the set?
 pub fn has64(set: u64, q: u64) -> bool
     requires { ⌜ q < 64 ⌝ }
