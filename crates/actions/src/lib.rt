@@ -116,11 +116,14 @@ fn branches_allowed(b: &[i32], i: usize, n: usize, h: usize) -> bool
     book::word_in(b, i, FEWEST_BRANCHES, MOST_BRANCHES)
 }
 
-// 10, of the cost at word i.
+// 10, of the cost at word i: the mark of a closed action is allowed too.
 fn cost_allowed(b: &[i32], i: usize) -> bool
     requires { ⌜ i < length (now b) ⌝ }
     ensures { λ r. ⌜ r ≡ costInside (word (now (b .entry)) i) ⌝ }
 {
+    if book::is_closed(b, i) {
+        return true;
+    }
     book::word_in(b, i, LEAST_COST, MOST_COST)
 }
 

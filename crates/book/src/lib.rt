@@ -5,7 +5,7 @@ ghost use lib.IntN.{pos, natAbs};
 ghost use lib.Signed.{ltZ};
 ghost use lib.ListN.{length};
 ghost use Rattle.model.specs.Lists.{all};
-ghost use Rattle.model.specs.Model.{word, horizon, stateCount};
+ghost use Rattle.model.specs.Model.{word, horizon, stateCount, closed};
 ghost use Rattle.model.specs.Questions.{inside};
 ghost use Rattle.questions.specs.Sizes.{Sized};
 ghost use Rattle.book.specs.Read.{SizeIs, Headed, SizesAre, StageFor, StageNear};
@@ -18,6 +18,9 @@ pub struct Sizes {
     pub s: usize,
     pub columns: usize,
 }
+
+// A cost of this many seconds marks an action as closed.
+const CLOSED: i32 = 200000;
 
 // A stage, and the number of the first state after it.
 pub struct Stage {
@@ -46,6 +49,14 @@ pub fn word_at(b: &[i32], i: usize) -> i32
     ensures { λ r. ⌜ r ≡ word (now (b .entry)) i ⌝ }
 {
     b[i]
+}
+
+// Is word i, a cost, the mark of a closed action?
+pub fn is_closed(b: &[i32], i: usize) -> bool
+    requires { ⌜ i < length (now b) ⌝ }
+    ensures { λ r. ⌜ r ≡ closed (word (now (b .entry)) i) ⌝ }
+{
+    b[i] == CLOSED
 }
 
 // Are the n words from word `at` on each from lo to hi?

@@ -7,10 +7,9 @@ use Prim.Native.Nat.{ℕ, _+_, _<_, max}
 use native.Mathlib.Numerals.{add-one}
 use native.Mathlib.Omega.{arith}
 use borrow.Author.Tests.{eq-eqb, ne-eqb}
-use lib.IntN.{natAbs}
 use Rattle.model.specs.Lists.{all, maxTo}
 use Rattle.model.specs.Model.{Words, lineCount, stateCount, stage, actionCount, right, lineAfter, skip, stateLine, actionLine}
-use Rattle.model.specs.Questions.{everyAction, branchesAllowed, linesAllowed, costAllowed, nextsAllowed, weightsAllowed, largestCost}
+use Rattle.model.specs.Questions.{everyAction, branchesAllowed, linesAllowed, costAllowed, nextsAllowed, weightsAllowed, openSize, largestCost}
 use Rattle.questions.specs.Ranges.{all-step, max-step, all-fails}
 use Rattle.actions.specs.Action.{code, actionNumber}
 use Rattle.check_book.specs.Walk.{lowest, partly, partLargest, Advanced, Progress, Stopped, Walked, Finished}
@@ -46,9 +45,9 @@ module _ (ws : Words) (p c : ℕ) where
       (and-assoc (all p (λ (q : ℕ). all (actionCount ws q) (λ (d : ℕ). test ws (stage ws q) (actionLine ws q d))))
       (all c (λ (d : ℕ). test ws (stage ws p) (actionLine ws p d))) (test ws (stage ws p) (actionLine ws p c)))
 
-  largest-step : partLargest ws p (c + 1) ≡ max (partLargest ws p c) (natAbs (right ws (actionLine ws p c)))
+  largest-step : partLargest ws p (c + 1) ≡ max (partLargest ws p c) (openSize (right ws (actionLine ws p c)))
   unfolding partLargest
-  largest-step = rw (max-step c (λ (d : ℕ). natAbs (right ws (actionLine ws p d)))) (omega arith)
+  largest-step = rw (max-step c (λ (d : ℕ). openSize (right ws (actionLine ws p d)))) (omega arith)
 
   line-step : actionLine ws p (c + 1) ≡ lineAfter ws (actionLine ws p c)
   unfolding actionLine skip
@@ -78,7 +77,7 @@ module _ (ws : Words) (p c : ℕ) where
               ∙ rw (partly-step costAllowed, partly-step nextsAllowed, partly-step weightsAllowed);
           at-is = a .at-is ∙ ap (lineAfter ws) (h .at-is) ∙ sym line-step;
           largest-is =
-              a .largest-is ∙ ap₂ (λ (x y : ℕ). max x (natAbs (right ws y))) (h .largest-is) (h .at-is) ∙ sym largest-step;
+              a .largest-is ∙ ap₂ (λ (x y : ℕ). max x (openSize (right ws y))) (h .largest-is) (h .at-is) ∙ sym largest-step;
         }
       where
         fits : branchesAllowed ws n j ≡ true
@@ -107,7 +106,7 @@ module _ (ws : Words) (p : ℕ) where
         fit = partly-next branchesAllowed ∙ h .fit;
         no-is = h .no-is ∙ rw (partly-next costAllowed, partly-next nextsAllowed, partly-next weightsAllowed);
         at-is = h .at-is ∙ rw add-one;
-        largest-is = h .largest-is ∙ rw (max-step p (λ (q : ℕ). maxTo (actionCount ws q) (λ (d : ℕ). natAbs (right ws (actionLine ws q d))))) (omega arith);
+        largest-is = h .largest-is ∙ rw (max-step p (λ (q : ℕ). maxTo (actionCount ws q) (λ (d : ℕ). openSize (right ws (actionLine ws q d))))) (omega arith);
       }
 
 pub begin : (ws : Words) → Progress ws 0 0 (record { no = 0; at = 0; largest = 0 })

@@ -4,10 +4,9 @@ use mathlib.Core.Path.{_≡_}
 use mathlib.Core.Bool.{Bool, true, false, _&&_}
 use mathlib.Core.Logic.{_⊎_}
 use Prim.Native.Nat.{ℕ, zero, suc, _≤_, _<_, max, min}
-use lib.IntN.{natAbs}
 use Rattle.model.specs.Lists.{all, maxTo}
 use Rattle.model.specs.Model.{Words, horizon, stateCount, stage, actionCount, right, lineAfter, actionLine}
-use Rattle.model.specs.Questions.{everyAction, branchesAllowed, linesAllowed, costAllowed, nextsAllowed, weightsAllowed, largestCost}
+use Rattle.model.specs.Questions.{everyAction, branchesAllowed, linesAllowed, costAllowed, nextsAllowed, weightsAllowed, openSize, largestCost}
 use Rattle.actions.specs.Action.{code}
 use Rattle.check_book.specs.declared.Walk.{Walk}
 
@@ -21,7 +20,7 @@ lowest (suc x) (suc y) = min (suc x) (suc y)
 pub record Advanced (ws : Words) (w : Walk) (no : ℕ) (r : Walk) : Type 0 where
   pub no-is : r .no ≡ lowest (w .no) no
   pub at-is : r .at ≡ lineAfter ws (w .at)
-  pub largest-is : r .largest ≡ max (w .largest) (natAbs (right ws (w .at)))
+  pub largest-is : r .largest ≡ max (w .largest) (openSize (right ws (w .at)))
 
 -- p is a state of the model, of stage n
 pub record StateOf (ws : Words) (p n : ℕ) : Type 0 where
@@ -40,8 +39,8 @@ partly test ws p c =
 -- the largest of their costs
 unfoldable pub partLargest : Words → ℕ → ℕ → ℕ
 partLargest ws p c =
-    max (maxTo p (λ (q : ℕ). maxTo (actionCount ws q) (λ (d : ℕ). natAbs (right ws (actionLine ws q d)))))
-    (maxTo c (λ (d : ℕ). natAbs (right ws (actionLine ws p d))))
+    max (maxTo p (λ (q : ℕ). maxTo (actionCount ws q) (λ (d : ℕ). openSize (right ws (actionLine ws q d)))))
+    (maxTo c (λ (d : ℕ). openSize (right ws (actionLine ws p d))))
 
 pub record Progress (ws : Words) (p c : ℕ) (w : Walk) : Type 0 where
   pub fit : partly branchesAllowed ws p c ≡ true

@@ -2,10 +2,11 @@
 use book::Sizes;
 use book::Stage;
 ghost use mathlib.Core.Path.{_≡_};
-ghost use Prim.Native.Nat.{_+_, _*_, _^_, _≤_, max};
+ghost use Prim.Native.Nat.{_+_, _*_, _^_, _<_, _≤_, max};
 ghost use lib.Dec.{leb};
-ghost use Rattle.model.specs.Model.{lineCount, actionCount, lineAfter};
-ghost use Rattle.model.specs.Questions.{bookNumber};
+ghost use lib.ListN.{length};
+ghost use Rattle.model.specs.Model.{word, lineCount, actionCount, lineAfter};
+ghost use Rattle.model.specs.Questions.{openSize, bookNumber};
 ghost use Rattle.questions.specs.Sizes.{Sized};
 ghost use Rattle.book.specs.Read.{SizesAre};
 ghost use Rattle.check_book.specs.Walk.{lowest, Advanced, StateOf, Progress, Walked, Finished};
@@ -16,7 +17,7 @@ pub struct Walk {
     pub no: u32,
     // the line after the last action
     pub at: usize,
-    // the largest cost without its sign so far
+    // the largest cost of an open action without its sign so far
     pub largest: usize,
 }
 
@@ -39,6 +40,17 @@ fn larger(x: usize, y: usize) -> usize
     if x < y { y } else { x }
 }
 
+// The cost at word i without its sign; 0 where it is the mark of a closed action.
+fn open_size(b: &[i32], i: usize) -> usize
+    requires { ⌜ i < length (now b) ⌝ }
+    ensures { λ r. ⌜ r ≡ openSize (word (now (b .entry)) i) ⌝ }
+{
+    if book::is_closed(b, i) {
+        return 0;
+    }
+    book::size_at(b, i)
+}
+
 // The walk past the action whose first line is line w.at and whose number is `no`.
 fn advance(b: &[i32], z: Sizes, w: Walk, no: u32) -> Walk
     requires { ⌜ Sized (now b) × SizesAre (now b) z × (lineAfter (now b) (w .at) ≤ lineCount (now b)) ⌝ }
@@ -49,7 +61,7 @@ fn advance(b: &[i32], z: Sizes, w: Walk, no: u32) -> Walk
     Walk {
         no: lower(w.no, no),
         at: j + 1 + book::size_at(b, at),
-        largest: larger(w.largest, book::size_at(b, at + z.l)),
+        largest: larger(w.largest, open_size(b, at + z.l)),
     }
 }
 

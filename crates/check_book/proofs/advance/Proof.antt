@@ -2,9 +2,9 @@
 -- Assumes nothing.
 use mathlib.Core.Path.{_≡_, ap, _∙_}
 use Prim.Native.Nat.{_+_, max}
-use lib.IntN.{natAbs}
 use native.Mathlib.Omega.{arith}
 use Rattle.model.specs.Model.{branches, lineAfter}
+use Rattle.model.specs.Questions.{openSize}
 use Rattle.book.proofs.Columns.{branches-are, right-is}
 use borrow.Author.Needs.{needs}
 use Rattle.check_book.proofs.advance.Statement.{statement}
@@ -35,13 +35,13 @@ add-t10 : tie.Need-add-t10
 unfolding lineAfter
 add-t10 c = omega (arith, r-is c)
 
-add-size-at : tie.Need-add-size-at
+add-open-size : tie.Need-add-open-size
 unfolding lineAfter
-add-size-at c = omega arith
+add-open-size c = omega arith
 
-size-at-requires-2 : tie.Need-size-at-requires-2
+open-size-requires : tie.Need-open-size-requires
 unfolding lineAfter
-size-at-requires-2 c κs = omega arith
+open-size-requires c κs = omega arith
 
 larger-requires : tie.Need-larger-requires
 larger-requires c κs = search needs
@@ -57,7 +57,7 @@ returns c =
       largest-is =
           c .larger .ensures
           ∙ ap (λ n. max (s .args .w .largest) n)
-          (c .before .size-at2 .ensures .is ∙ ap natAbs (right-is ws (s .args .z) (s .pre .1) (s .args .w .at) _ (omega arith)));
+          (c .before .open-size .ensures ∙ ap openSize (right-is ws (s .args .z) (s .pre .1) (s .args .w .at) _ (omega arith)));
     }
 
 pub advance-spec : {M : Type 1} → statement M
@@ -69,7 +69,7 @@ advance-spec =
     add-t8
     size-at-requires
     add-t10
-    add-size-at
-    size-at-requires-2
+    add-open-size
+    open-size-requires
     larger-requires
     returns)
