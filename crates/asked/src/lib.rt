@@ -1,4 +1,4 @@
-// The questions 1 to 14, which ranking, writing and accepting share.
+// The questions 1 to 14 and 28, which ranking, writing and accepting share.
 ghost use mathlib.Core.Path.{_≡_};
 ghost use Rattle.model.specs.Record.{askedNumber};
 
@@ -15,6 +15,9 @@ pub fn asked_number(b: &[i32], k: usize) -> u32
     }
     if 64 < k {
         return 14;
+    }
+    if !feasible::has_policy(b) {
+        return 28;
     }
     0
 }

@@ -3,7 +3,7 @@
 use book::Sizes;
 ghost use mathlib.Core.Path.{_≡_};
 ghost use Prim.Native.Nat.{_<_};
-ghost use Rattle.model.specs.Model.{stateCount, actionCount, action};
+ghost use Rattle.model.specs.Model.{stateCount, actionCount, action, closed};
 ghost use Rattle.index.specs.Index.{Indexed, ActionAt};
 ghost use Rattle.lines.specs.Lines.{LinesOf, NextIs, WeightIs};
 
@@ -45,6 +45,14 @@ pub fn cost(b: &[i32], t: Lines, p: usize, c: usize) -> i64
     ensures { λ r. ⌜ r ≡ action (now (b .entry)) p c .cost ⌝ }
 {
     b[t.at + t.l] as i64
+}
+
+// Is the action closed?
+pub fn is_closed(b: &[i32], t: Lines, p: usize, c: usize) -> bool
+    requires { ⌜ LinesOf (now b) p c t ⌝ }
+    ensures { λ r. ⌜ r ≡ closed (action (now (b .entry)) p c .cost) ⌝ }
+{
+    book::is_closed(b, t.at + t.l)
 }
 
 // The next state of transition i.
