@@ -4,20 +4,23 @@ use mathlib.Core.Path.{_≡_, refl, sym, ap, _∙_, subst}
 use mathlib.Core.List.{List}
 use Prim.Native.Nat.{ℕ, _+_, _*_, _^_, _≤_, _<_}
 use native.Mathlib.Omega.{arith}
+use lib.Dec.{T}
 use lib.IntN.{ℤ, pos, _+ℤ_, _*ℤ_}
 use lib.ListN.{length, set}
 use lib.Seq.{getD-set-same, getD-set-other}
 use mathlib.Core.Logic.{_⊎_, inl, inr}
 use native.Mathlib.Nat.{eq-or-lt-of-le}
-use Rattle.model.specs.Model.{Words, scale, stateCount, togo, action, options}
-use Rattle.model.specs.Questions.{largestCost, bookNumber}
-use Rattle.model.specs.Policy.{Policy}
+use Rattle.model.specs.Model.{Words, Transition, scale, stateCount, togo, action}
+use Rattle.model.specs.Questions.{bookNumber}
+use Rattle.model.specs.Policy.{Policy, isPolicy}
 use Rattle.model.specs.Path.{byteAt, taken}
-use Rattle.model.specs.Recursion.{actionCost, costToGo, through, leastToGo}
+use Rattle.model.specs.Recursion.{actionCost, costToGo, bestOf, through, leastToGo, feasible}
 use Rattle.laws.specs.ToGo.{expected-same, by-stage}
 use Rattle.laws.specs.Members.{AtNexts, every-both}
-use Rattle.laws.specs.Bounds.{to-go-bound, least-bound}
-use Rattle.accepted.specs.Shape.{shape, cost-bound, weights-bound}
+use Rattle.laws.specs.Best.{best-cases}
+use Rattle.accepted.specs.Options.{Feasible, Alive}
+use Rattle.accepted.specs.Shape.{shape, nexts-alive}
+use Rattle.accepted.specs.Demands.{to-go-most, through-most}
 use Rattle.costs.specs.Terms.{valueAt, most, Bounded}
 
 module _ (ws : Words) (ok : bookNumber ws ≡ 0) where
@@ -30,11 +33,11 @@ module _ (ws : Words) (ok : bookNumber ws ≡ 0) where
       (λ m. costToGo (scale ws) (taken ws bs) m p) refl (λ m. refl)
 
   -- the cost of an action and a best action ever after
-  pub through-step : (p c : ℕ) → through (scale ws) (action ws) (options ws) (togo ws p) p c
-      ≡ actionCost (scale ws) (togo ws p) (λ q. leastToGo (scale ws) (action ws) (options ws) (togo ws q) q) (action ws p c)
+  pub through-step : (p c : ℕ) → through (scale ws) (action ws) (feasible ws) (togo ws p) p c
+      ≡ actionCost (scale ws) (togo ws p) (λ q. leastToGo (scale ws) (action ws) (feasible ws) (togo ws q) q) (action ws p c)
   through-step p c =
-      by-stage (scale ws) (togo ws) (leastToGo (scale ws) (action ws) (options ws)) p (action ws p c) (shape ws ok .step p c)
-      (λ m. through (scale ws) (action ws) (options ws) m p c) refl (λ m. refl)
+      by-stage (scale ws) (togo ws) (leastToGo (scale ws) (action ws) (feasible ws)) p (action ws p c) (shape ws ok .step p c)
+      (λ m. through (scale ws) (action ws) (feasible ws) m p c) refl (λ m. refl)
 
   -- an array that holds the cost-to-go u of each state of a set from p on
   abbrev pub Holds : (ℕ → Type 0) → (ℕ → ℤ) → ℕ → List ℤ → Type 0
@@ -53,17 +56,25 @@ module _ (ws : Words) (ok : bookNumber ws ≡ 0) where
       (shape ws ok .later p c) n))
 
   -- bounds of what it holds
-  pub policy-bounded : (bs : Policy) (p : ℕ) (v : List ℤ) → Holds State (λ q. costToGo (scale ws) (taken ws bs) (togo ws q) q) (p + 1) v → Bounded ws p v
-  unfolding most taken
-  policy-bounded bs p v h q l i =
-      rw (h q (omega arith) i)
-      (to-go-bound (scale ws) (largestCost ws) (taken ws bs) (λ p. cost-bound ws ok p (byteAt bs p)) (λ p. weights-bound ws ok p (byteAt bs p)) (togo ws q) q)
-
-  pub least-bounded : (p : ℕ) (v : List ℤ) → Holds State (λ q. leastToGo (scale ws) (action ws) (options ws) (togo ws q) q) (p + 1) v → Bounded ws p v
+  pub policy-bounded : (bs : Policy) → T (isPolicy ws bs) → (p c : ℕ) (v : List ℤ)
+      → Holds State (λ q. costToGo (scale ws) (taken ws bs) (togo ws q) q) (p + 1) v → Bounded ws p c v
   unfolding most
-  least-bounded p v h q l i =
-      rw (h q (omega arith) i)
-      (least-bound (scale ws) (largestCost ws) (action ws) (options ws) (cost-bound ws ok) (weights-bound ws ok) (togo ws q) q)
+  policy-bounded bs t p c v h =
+      every-both {P = λ (t : Transition). p < t .next} {Q = λ (t : Transition). t .next < stateCount ws}
+      (λ n l i. rw (h (n .next) (omega arith) i) (to-go-most ws ok bs t (togo ws (n .next)) (n .next)))
+      (action ws p c .transitions) (shape ws ok .later p c) (shape ws ok .inside p c)
+
+  pub least-bounded : (p c : ℕ) (v : List ℤ) → Feasible ws p c
+      → Holds (Alive ws) (λ q. leastToGo (scale ws) (action ws) (feasible ws) (togo ws q) q) (p + 1) v → Bounded ws p c v
+  unfolding most
+  least-bounded p c v i h =
+      every-both {P = λ (t : Transition). p < t .next} {Q = λ (t : Transition). Alive ws (t .next)}
+      (λ n l a. rw (h (n .next) (omega arith) a)
+      (through-most ws ok (togo ws (n .next)) (n .next) (bestOf (cost (n .next)) (feasible ws (n .next))) (best-cases (cost (n .next)) (feasible ws (n .next)))))
+      (action ws p c .transitions) (shape ws ok .later p c) (nexts-alive ws ok p c i)
+    where
+      cost : ℕ → ℕ → ℤ
+      cost q = through (scale ws) (action ws) (feasible ws) (togo ws q) q
 
   -- one state more
   pub holds-more : (P : ℕ → Type 0) (u : ℕ → ℤ) (p : ℕ) (v : List ℤ) (y : ℤ) → p < length v → (P p → y ≡ u p) → Holds P u (p + 1) v

@@ -6,6 +6,7 @@ ghost use Prim.Native.Nat.{_+_, _*_, _^_, _<_, _≤_};
 ghost use lib.IntN.{pos, natAbs, _+ℤ_, _*ℤ_};
 ghost use Rattle.model.specs.Model.{stateCount, action, scale, togo};
 ghost use Rattle.model.specs.Recursion.{expected, actionCost};
+ghost use Rattle.accepted.specs.Options.{Option};
 ghost use Rattle.index.specs.Index.{Indexed};
 ghost use Rattle.lines.specs.Lines.{LinesOf};
 ghost use Rattle.costs.specs.Terms.{absExpected, valueAt, Bounded};
@@ -44,9 +45,9 @@ pub fn unit(b: &[i32], z: Sizes, x: &[usize; 192], p: usize) -> usize
     power::raised(z.d, m) as usize
 }
 
-// The cost of taking action c of state p, where v has the costs-to-go of the states after p. The caller has the unit of p for all its actions.
+// The cost of taking action c of state p, which is open, where v has the costs-to-go of its next states. The caller has the unit of p for all its actions.
 pub fn action_cost(b: &[i32], a: Lines, p: usize, c: usize, unit: usize, v: &[i64; 64]) -> i64
-    requires { ⌜ LinesOf (now b) p c a × (unit ≡ scale (now b) ^ togo (now b) p) × Bounded (now b) p (now v) ⌝ }
+    requires { ⌜ LinesOf (now b) p c a × (unit ≡ scale (now b) ^ togo (now b) p) × Option (now b) p c × Bounded (now b) p c (now v) ⌝ }
     ensures { λ r. ⌜ r ≡ actionCost (scale (now (b .entry))) (togo (now (b .entry)) p) (valueAt (now (v .entry))) (action (now (b .entry)) p c) ⌝ }
 {
     let start = mul_add(0, unit, lines::cost(b, a, p, c));

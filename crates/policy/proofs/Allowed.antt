@@ -1,18 +1,16 @@
 -- The bytes that are allowed at a state.
 -- Assumes nothing.
-use mathlib.Core.Path.{_≡_, refl, sym, _∙_}
-use mathlib.Core.Bool.{Bool, true, false, _||_}
+use mathlib.Core.Path.{_≡_, refl, sym, ap, _∙_, subst}
+use mathlib.Core.Bool.{Bool, true, false, not, _||_}
 use mathlib.Core.List.{List}
-use Prim.Native.Nat.{ℕ, _<_}
-use native.Mathlib.Decide.{decLt}
+use Prim.Native.Nat.{ℕ, _≤_, _<_}
 use native.Mathlib.Omega.{arith}
-use borrow.Author.Tests.{lt-ltb, le-ltb}
-use lib.Dec.{eqb, ltb}
+use lib.Dec.{T, eqb}
 use Rattle.model.specs.Lists.{isIn}
-use Rattle.model.specs.Model.{Words, actionCount, options}
+use Rattle.model.specs.Model.{Words, actionCount, action, closed, options}
 use Rattle.model.specs.Policy.{allowed}
 use Rattle.laws.specs.Members.{T-true, true-T, isIn-in, in-isIn}
-use Rattle.accepted.specs.Options.{option-below, below-option}
+use Rattle.accepted.specs.Options.{option-below, option-open, open-option}
 
 -- 255 alone where the state is not reached
 pub allowed-unreached : (os : List ℕ) (c : ℕ) → isIn c (allowed os false) ≡ eqb c 255
@@ -22,11 +20,22 @@ allowed-unreached os c = go (eqb c 255)
     go true = refl
     go false = refl
 
--- its actions where it is reached
-pub allowed-reached : (ws : Words) (p c : ℕ) → isIn c (allowed (options ws p) true) ≡ ltb c (actionCount ws p)
-allowed-reached ws p c = go (isIn c (options ws p)) refl (decLt c (actionCount ws p))
-  where
-    go : (b : Bool) → isIn c (options ws p) ≡ b → Dec (c < actionCount ws p) → isIn c (options ws p) ≡ ltb c (actionCount ws p)
-    go b e (yes l) = T-true (isIn c (options ws p)) (in-isIn c (options ws p) (below-option ws p c l)) ∙ sym (lt-ltb c (actionCount ws p) l)
-    go true e (no n) = absurd (n (option-below ws p (isIn-in c (options ws p) (true-T e))))
-    go false e (no n) = e ∙ sym (le-ltb c (actionCount ws p) (omega arith))
+-- its open actions where it is reached
+module _ (ws : Words) (p c : ℕ) where
+  pub beyond-actions : actionCount ws p ≤ c → isIn c (allowed (options ws p) true) ≡ false
+  beyond-actions l = go (isIn c (options ws p)) refl
+    where
+      go : (b : Bool) → isIn c (options ws p) ≡ b → isIn c (options ws p) ≡ false
+      go true e = absurd (omega (arith, option-below ws p (isIn-in c (options ws p) (true-T e))))
+      go false e = e
+
+  pub own-action : c < actionCount ws p → isIn c (allowed (options ws p) true) ≡ not (closed (action ws p c .cost))
+  own-action l = go (closed (action ws p c .cost)) refl (isIn c (options ws p)) refl
+    where
+      go : (b : Bool) → closed (action ws p c .cost) ≡ b → (t : Bool) → isIn c (options ws p) ≡ t → isIn c (options ws p) ≡ not (closed (action ws p c .cost))
+      go false e t i = T-true (isIn c (options ws p)) (in-isIn c (options ws p) (open-option ws p c l e)) ∙ sym (ap not e)
+      go true e true i = absurd (subst T (sym e ∙ option-open ws p c (isIn-in c (options ws p) (true-T i))) tt)
+      go true e false i = i ∙ sym (ap not e)
+
+  pub allowed-below : isIn c (allowed (options ws p) true) ≡ true → c < actionCount ws p
+  allowed-below e = option-below ws p (isIn-in c (options ws p) (true-T e))

@@ -6,7 +6,6 @@ use mathlib.Core.List.{List, [], _∷_}
 use Prim.Native.Nat.{ℕ, suc, _+_, _-_, _≤_, _<_}
 use native.Mathlib.Numerals.{add-one}
 use native.Mathlib.Omega.{arith}
-use borrow.Author.Tests.{ltb-true}
 use lib.ListN.{length, getD, drop, drop-of-length-le}
 use lib.Seq.{drop-cons}
 use Rattle.model.specs.Lists.{isIn}
@@ -18,7 +17,7 @@ use Rattle.laws.specs.Policies.{policy-length}
 use Rattle.accepted.specs.Shape.{policy-is, shape}
 use Rattle.policy.specs.Marks.{Marks, mark}
 use Rattle.policy.proofs.Marking.{marked, nexts-low}
-use Rattle.policy.proofs.Allowed.{allowed-reached}
+use Rattle.policy.proofs.Allowed.{allowed-below}
 
 -- there is a byte for each state, the marks are those of the states known to be reached, and the bytes from state p on settle the question
 pub record Pass (ws : Words) (bs : Policy) (p : ℕ) (marks : List Bool) : Type 0 where
@@ -69,7 +68,7 @@ module _ (ws : Words) (bs : Policy) (p : ℕ) (marks : List Bool) (h : Pass ws b
 
       -- at a reached state the byte is one of its actions
       pub byte-action : getD marks p false ≡ true → c < actionCount ws p
-      byte-action r = ltb-true c (actionCount ws p) (sym (allowed-reached ws p c) ∙ (rw r at t))
+      byte-action r = allowed-below ws p c (rw r at t)
 
       module _ (ok : bookNumber ws ≡ 0) where
         -- whose next states are reached too

@@ -7,7 +7,7 @@ ghost use Prim.Native.Nat.{_<_};
 ghost use Rattle.model.specs.Lists.{isIn};
 ghost use Rattle.model.specs.Model.{stateCount, actionCount, action, options};
 ghost use Rattle.model.specs.Policy.{nexts, allowed, isPolicy};
-ghost use Rattle.index.specs.Index.{Checked, Indexed};
+ghost use Rattle.index.specs.Index.{Indexed};
 ghost use Rattle.policy.specs.Marks.{Marks, mark};
 
 // State 0 is reached, and no other is known to be.
@@ -19,15 +19,20 @@ fn first_marks() -> [bool; 64]
     marks
 }
 
-// Is byte c allowed at state p: one of its actions if the state is reached, else 255?
-fn byte_allowed(b: &[i32], z: Sizes, p: usize, reached: bool, c: usize) -> bool
-    requires { ⌜ Checked (now b) z × (p < stateCount (now b)) ⌝ }
+// Is byte c allowed at state p: one of its open actions if the state is reached, else 255?
+fn byte_allowed(b: &[i32], z: Sizes, x: &[usize; 192], p: usize, reached: bool, c: usize) -> bool
+    requires { ⌜ Indexed (now b) z (now x) × (p < stateCount (now b)) ⌝ }
     ensures { λ r. ⌜ r ≡ isIn c (allowed (options (now (b .entry)) p) reached) ⌝ }
 {
     if !reached {
         return c == 255;
     }
-    c < index::count(b, z, p)
+    let n = index::count(b, z, p);
+    if n <= c {
+        return false;
+    }
+    let t = lines::of_action(b, z, x, p, c);
+    !lines::is_closed(b, t, p, c)
 }
 
 // Marks the next states of action c of state p.
@@ -60,7 +65,7 @@ pub fn is_policy(b: &[i32], z: Sizes, x: &[usize; 192], plan: &[u8]) -> bool
     while p < s {
         let c = plan[p] as usize;
         let reached = marks[p];
-        if !byte_allowed(b, z, p, reached, c) {
+        if !byte_allowed(b, z, x, p, reached, c) {
             return false;
         }
         if reached {

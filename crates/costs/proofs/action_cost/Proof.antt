@@ -29,7 +29,7 @@ module _ (s : tie.Start) where
       + absExpected (valueAt (s .args .v .now)) (action ws (s .args .p) (s .args .c) .transitions)
       ≤ 4000000000000000000
   total =
-      le-trans (within-most ws (s .pre .0 .ok) (s .args .p) (s .args .c) (s .args .v .now) (s .pre .2))
+      le-trans (within-most ws (s .pre .0 .ok) (s .args .p) (s .args .c) (s .args .v .now) (s .pre .2) (s .pre .3))
       (most-small ws (s .pre .0 .ok) (s .args .p) (s .args .c) (s .args .p))
 
 cost-requires : tie.Need-cost-requires

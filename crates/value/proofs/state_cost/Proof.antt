@@ -1,18 +1,19 @@
 -- An action of the state is valued by the costs-to-go of its next states; a state that is not reached has byte 255 and no cost.
 -- Assumes nothing.
-use mathlib.Core.Path.{_≡_, sym, ap, _∙_}
+use mathlib.Core.Path.{_≡_, sym, ap, _∙_, subst}
 use mathlib.Core.Logic.{⊎-elim}
 use Prim.Native.Nat.{_<_}
 use native.Mathlib.Omega.{arith}
 use lib.ListN.{length, getD}
-use Rattle.model.specs.Model.{Words, scale, stateCount, togo, actionCount, action}
+use Rattle.model.specs.Model.{Words, scale, stateCount, togo, action}
 use Rattle.model.specs.Questions.{bookNumber}
 use Rattle.model.specs.Policy.{Policy}
 use Rattle.model.specs.Path.{byteAt, taken}
 use Rattle.model.specs.Recursion.{actionCost, costToGo}
 use Rattle.costs.proofs.Sums.{read64}
 use Rattle.costs.proofs.ToGo.{policy-step, policy-bounded, by-array}
-use Rattle.accepted.specs.Options.{option-below}
+use Rattle.laws.specs.Members.{true-T}
+use Rattle.accepted.specs.Options.{Option, option-below}
 use Rattle.accepted.specs.Shape.{shape}
 use Rattle.accepted.specs.Bytes.{byte-is, byte-cases, policy-long}
 use Rattle.value.proofs.Bytes.{no-cost}
@@ -35,13 +36,13 @@ module _ (s : tie.Start) where
   byte : byteAt bs (s .args .p) ≡ getD bs (s .args .p) 0
   byte = byte-is bs (s .args .p) 255 0 long
 
--- a byte other than 255 is an action
-low : (c : tie.Else1) →
+-- a byte other than 255 is an option
+own : (c : tie.Else1) →
     let s = c .before .before .before in
-    getD (bs s) (s .args .p) 0 < actionCount (ws s) (s .args .p)
-low c =
+    Option (ws s) (s .args .p) (getD (bs s) (s .args .p) 0)
+own c =
     let s = c .before .before .before in
-    ⊎-elim (λ e. absurd (c .if1 .left (sym (byte s) ∙ e))) (λ o. omega (arith, byte s, option-below (ws s) (s .args .p) o))
+    ⊎-elim (λ e. absurd (c .if1 .left (sym (byte s) ∙ e))) (λ o. subst (Option (ws s) (s .args .p)) (byte s) o)
     (byte-cases (ws s) (ok s) (bs s) (s .pre .1) (s .args .p) (s .pre .2))
 
 shared-slice-read-c : tie.Need-shared-slice-read-c
@@ -56,15 +57,19 @@ returns c =
     sym (no-cost (ws s) (ok s) (bs s) (s .pre .1) (s .args .p) (s .pre .2) (byte s ∙ c .if1 .taken))
 
 of-action-requires : tie.Need-of-action-requires
-of-action-requires c κs = let s = c .before .before .before in (s .pre .0, s .pre .2, low c)
+of-action-requires c κs = let s = c .before .before .before in (s .pre .0, s .pre .2, option-below (ws s) (s .args .p) (own c))
 
 unit-requires : tie.Need-unit-requires
 unit-requires c κs = let s = c .before .before .before .before in (s .pre .0, s .pre .2)
 
 action-cost-requires : tie.Need-action-cost-requires
 action-cost-requires c κs =
-    let s = c .before .before .before .before .before in
-    (c .before .of-action .ensures, c .unit .ensures, policy-bounded (ws s) (ok s) (bs s) (s .args .p) (s .args .v .now) (s .pre .3))
+    let s = c .before .before .before .before .before in (
+      c .before .of-action .ensures,
+      c .unit .ensures,
+      own (c .before .before),
+      policy-bounded (ws s) (ok s) (bs s) (true-T (s .pre .1)) (s .args .p) _ (s .args .v .now) (s .pre .3),
+    )
 
 returns-2 : tie.Need-returns-2
 unfolding taken
