@@ -1,7 +1,8 @@
 -- The bytes that a walk keeps of another.
 -- Assumes nothing.
-use mathlib.Core.Path.{_≡_, refl, sym, ap, _∙_}
+use mathlib.Core.Path.{_≡_, refl, sym, ap, _∙_, subst}
 use mathlib.Core.Bool.{Bool, true, false}
+use mathlib.Core.Logic.{_⊎_, inl}
 use mathlib.Core.List.{List, [], _∷_, _++_, append-assoc, head-eq-of-cons-eq, tail-eq-of-cons-eq}
 use Prim.Native.Nat.{ℕ, zero, suc, _+_, _-_, _≤_, _<_}
 use native.Mathlib.Numerals.{add-one}
@@ -14,12 +15,14 @@ use Rattle.model.specs.Model.{Words, Action, stateCount, action}
 use Rattle.model.specs.Questions.{bookNumber}
 use Rattle.model.specs.Policy.{Policy, onward}
 use Rattle.model.specs.Path.{byteAt}
+use Rattle.laws.specs.Members.{in-one}
 use Rattle.laws.specs.Greedy.{byteOf}
+use Rattle.accepted.specs.Options.{Feasible, Alive}
 use Rattle.sets.specs.Sets.{SetOf}
 use Rattle.build.specs.Walk.{walkBy, chosen, Usable, Walked, Own, Passed}
 use Rattle.build.specs.Best.{bestAt}
 use Rattle.build.proofs.Split.{split-before}
-use Rattle.build.proofs.Pass.{Pass, bare}
+use Rattle.build.proofs.Pass.{Pass, bare, onward-alive}
 
 pub walk-long : (act : ℕ → ℕ → Action) (f : ℕ → ℕ) (n p : ℕ) (reach : List ℕ) → length (walkBy act f n p reach) ≡ n
 walk-long act f zero p reach = refl
@@ -27,16 +30,16 @@ walk-long act f (suc n) p reach = ap suc (walk-long act f n (suc p) (onward act 
 
 module _ (ws : Words) (bs : Policy) where
   -- nothing is kept yet
-  abbrev pub walked-none : (set : ℕ) → SetOf set (0 ∷ []) → Walked ws bs 0 set
-  walked-none set m =
+  abbrev pub walked-none : Alive ws 0 → (set : ℕ) → SetOf set (0 ∷ []) → Walked ws bs 0 set
+  walked-none a set m =
       let z : stateCount ws - 0 ≡ stateCount ws = omega arith in
-      record { reach = 0 ∷ []; set-is = m; rest = λ f h. rw z }
+      record { reach = 0 ∷ []; set-is = m; alive = λ q i. subst (Alive ws) (sym (in-one i)) a; rest = λ f h. rw z }
 
-  pub passed-none : Own ws bs → (set : ℕ) → SetOf set (0 ∷ []) → Passed ws bs 0 set
-  passed-none o set m =
+  pub passed-none : Alive ws 0 → Own ws bs → (set : ℕ) → SetOf set (0 ∷ []) → Passed ws bs 0 set
+  passed-none a o set m =
       let z : stateCount ws - 0 ≡ stateCount ws = omega arith in
       record {
-        walked = walked-none set m;
+        walked = walked-none a set m;
         long = ap length (o .own) ∙ walk-long (action ws) (o .by) (stateCount ws) 0 (0 ∷ []);
         by = o .by;
         left = rw z (o .own);
@@ -69,12 +72,13 @@ module _ (ws : Words) (bs : Policy) where
     same : byteOf (isIn s (w .reach)) byte ≡ byte
     same = twice (isIn s (w .reach)) byte (h .by s) head
 
-    pub passed-more : (after : ℕ) → SetOf after (onward (action ws) s byte (w .reach)) → Passed ws bs (s + 1) after
-    passed-more after m =
+    pub passed-more : (byte ≡ 255) ⊎ Feasible ws s byte → (after : ℕ) → SetOf after (onward (action ws) s byte (w .reach)) → Passed ws bs (s + 1) after
+    passed-more t after m =
         record {
           walked = record {
             reach = onward (action ws) s byte (w .reach);
             set-is = m;
+            alive = onward-alive ws ok s byte (w .reach) t (w .alive);
             rest = goes;
           };
           long = h .long;
@@ -100,7 +104,7 @@ module _ (ws : Words) (bs : Policy) where
 
     -- 255 stands for no action
     pub passed-bare : byte ≡ 255 → Passed ws bs (s + 1) set
-    passed-bare e = passed-more set (rw e (bare ws ok s set (w .reach) (w .set-is)))
+    passed-bare e = passed-more (inl e) set (rw e (bare ws ok s set (w .reach) (w .set-is)))
 
   -- the pass over the other states begins there
   pub begin-at : (r c set : ℕ) (out : Policy) → Walked ws bs r set → length out ≡ stateCount ws → take r out ≡ take r bs
@@ -110,6 +114,7 @@ module _ (ws : Words) (bs : Policy) where
         long = long;
         reach = h .reach;
         set-is = h .set-is;
+        alive = h .alive;
         rest = h .rest (chosen ws bs r c) (λ p l. split-before (byteAt bs) r c (bestAt ws) p l)
             ∙ ap (λ (l : List ℕ). l ++ walkBy (action ws) (chosen ws bs r c) (stateCount ws - r) r (h .reach)) (sym same);
       }

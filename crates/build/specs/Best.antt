@@ -5,32 +5,39 @@ use mathlib.Core.List.{List}
 use Prim.Native.Nat.{ℕ, _+_, _<_}
 use lib.IntN.{ℤ}
 use lib.ListN.{length, getD}
-use Rattle.model.specs.Model.{Words, scale, stateCount, togo, action, options}
-use Rattle.model.specs.Recursion.{bestOf, through}
-use Rattle.accepted.specs.Options.{Option}
+use Rattle.model.specs.Model.{Words, scale, stateCount, togo, action}
+use Rattle.model.specs.Recursion.{bestOf, through, feasible}
+use Rattle.accepted.specs.Options.{Feasible}
 use Rattle.sets.specs.Sets.{with, free}
+use Rattle.feasible.specs.Barred.{Leaves}
 use Rattle.table.specs.Table.{rowOf}
 
--- the first best action of state p
+-- the first best action of state p; 255 where no policy goes on from it
 abbrev pub bestAt : Words → ℕ → ℕ
-bestAt ws p = bestOf (through (scale ws) (action ws) (options ws) (togo ws p) p) (options ws p)
+bestAt ws p = bestOf (through (scale ws) (action ws) (feasible ws) (togo ws p) p) (feasible ws p)
 
 -- and the first best of its others
 abbrev pub secondAt : Words → ℕ → ℕ
-secondAt ws p = bestOf (through (scale ws) (action ws) (options ws) (togo ws p) p) (free (with 0 (bestAt ws p)) (options ws p))
+secondAt ws p = bestOf (through (scale ws) (action ws) (feasible ws) (togo ws p) p) (free (with 0 (bestAt ws p)) (feasible ws p))
 
--- q has the costs of the options of every state
+-- q has the costs of the feasible actions of every state
 pub record RowsOf (ws : Words) (q : List ℤ) : Type 0 where
   pub rows : length q ≡ 512
-  pub through-is : (p c : ℕ) → p < stateCount ws → Option ws p c
-      → rowOf q p c ≡ through (scale ws) (action ws) (options ws) (togo ws p) p c
+  pub through-is : (p c : ℕ) → p < stateCount ws → Feasible ws p c
+      → rowOf q p c ≡ through (scale ws) (action ws) (feasible ws) (togo ws p) p c
 
--- xs has the first best actions of the states below n
+-- the set has the actions of state p that no policy can take, in a byte
+pub record BarredAt (ws : Words) (p mask : ℕ) : Type 0 where
+  pub leaves : Leaves ws p mask
+  pub small : mask < 256
+
+-- xs has the first best actions of the states below n and, 128 places further on, the sets of those that no policy can take
 pub record BestTo (ws : Words) (n : ℕ) (xs : List ℕ) : Type 0 where
-  pub long : length xs ≡ 128
+  pub long : length xs ≡ 192
   pub best-is : (p : ℕ) → p < n → getD xs p 0 ≡ bestAt ws p
+  pub barred : (p : ℕ) → p < n → BarredAt ws p (getD xs (128 + p) 0)
 
--- and, 64 places further on, their second best
+-- and, 64 places further on, their second best actions
 abbrev pub SecondTo : Words → ℕ → List ℕ → Type 0
 SecondTo ws n xs = (p : ℕ) → p < n → getD xs (64 + p) 0 ≡ secondAt ws p
 

@@ -11,8 +11,9 @@ use Rattle.model.specs.Lists.{isIn}
 use Rattle.model.specs.Model.{Words, Action, stateCount, action}
 use Rattle.model.specs.Policy.{Policy, onward}
 use Rattle.model.specs.Path.{byteAt}
+use Rattle.laws.specs.Members.{In}
 use Rattle.laws.specs.Greedy.{byteOf}
-use Rattle.accepted.specs.Options.{Option}
+use Rattle.accepted.specs.Options.{Feasible, Alive}
 use Rattle.sets.specs.Sets.{has, SetOf}
 use Rattle.build.specs.Best.{bestAt}
 
@@ -31,9 +32,9 @@ splitBy f r c g s = cond (ltb s r) (f s) (cond (eqb s r) c (g s))
 abbrev pub chosen : Words → Policy → ℕ → ℕ → ℕ → ℕ
 chosen ws bs r c = splitBy (byteAt bs) r c (bestAt ws)
 
--- the byte of state s is there, and is an option of the state or 255
+-- the byte of state s is there, and is a feasible action of the state or 255
 abbrev pub ActionOrNone : Words → Policy → ℕ → Type 0
-ActionOrNone ws bs s = (s < length bs) × ((byteAt bs s ≡ 255) ⊎ Option ws s (byteAt bs s))
+ActionOrNone ws bs s = (s < length bs) × ((byteAt bs s ≡ 255) ⊎ Feasible ws s (byteAt bs s))
 
 -- each byte before state r is
 abbrev pub Usable : Words → Policy → ℕ → Type 0
@@ -44,10 +45,11 @@ pub record Stepped (act : ℕ → ℕ → Action) (s a byte before after : ℕ) 
   pub byte-is : byte ≡ byteOf (has before s) a
   pub reached : (qs : List ℕ) → SetOf before qs → SetOf after (onward act s byte qs)
 
--- the set of the states that the first s bytes of bs reach: whoever acts by these bytes walks over the other states from there
+-- the set of the states that the first s bytes of bs reach, and a policy goes on from each: whoever acts by these bytes walks over the other states from there
 pub record Walked (ws : Words) (bs : Policy) (s set : ℕ) : Type 0 where
   pub reach : List ℕ
   pub set-is : SetOf set reach
+  pub alive : (q : ℕ) → In q reach → Alive ws q
   pub rest : (f : ℕ → ℕ) → ((p : ℕ) → p < s → f p ≡ byteAt bs p)
       → walkBy (action ws) f (stateCount ws) 0 (0 ∷ []) ≡ take s bs ++ walkBy (action ws) f (stateCount ws - s) s reach
 

@@ -14,11 +14,12 @@ use lib.IntN.{ℤ, pos, natAbs, _+ℤ_, _-ℤ_, _*ℤ_}
 use lib.ListN.{length, getD}
 use Rattle.model.specs.Questions.{bookNumber}
 use Rattle.build.specs.Best.{RowsOf}
-use Rattle.model.specs.Model.{Words, scale, stateCount, togo, action, options}
+use Rattle.model.specs.Model.{Words, scale, stateCount, togo, action}
 use Rattle.model.specs.Policy.{Policy}
 use Rattle.model.specs.Path.{byteAt, taken}
-use Rattle.model.specs.Recursion.{bestOf, through}
-use Rattle.accepted.specs.Options.{Option, option-small}
+use Rattle.model.specs.Recursion.{bestOf, through, feasible}
+use Rattle.laws.specs.Members.{true-T}
+use Rattle.accepted.specs.Options.{Feasible, feasible-small}
 use Rattle.accepted.specs.Facts.{accepted}
 use Rattle.accepted.specs.Shape.{togo-start}
 use Rattle.accepted.specs.Demands.{to-go-fits}
@@ -27,16 +28,16 @@ use Rattle.table.specs.Table.{rowOf}
 use Rattle.build.specs.Walk.{walkBy, chosen, Own, ActionOrNone}
 use Rattle.build.proofs.Walk.{walk-greedy}
 use Rattle.reach.specs.Weights.{WeightsOf}
-use Rattle.accepted.specs.Bytes.{byte-is, policy-long, byte-cases}
+use Rattle.accepted.specs.Bytes.{byte-is, policy-long}
 use Rattle.splits.specs.Parts.{Reaches}
 use Rattle.stored.specs.Entry.{Entry}
-use Rattle.stored.specs.Lists.{left-option, listsOf}
+use Rattle.stored.specs.Lists.{left-feasible, listsOf}
 use Rattle.stored.specs.Children.{Right, maskAt, childEntry, plan-model, child-right}
 use Rattle.stored.specs.Costs.{cost-moves}
 use Rattle.child.specs.Move.{Movable}
 use Rattle.child.proofs.Moves.{movable}
 use Rattle.child.proofs.Plans.{child-plan}
-use Rattle.child.proofs.Splits.{reaches-here}
+use Rattle.child.proofs.Splits.{byte-feasible, reaches-here}
 use Rattle.child.specs.Children.{ChildAt, childOf, joined, joinedIf, admitted, ChildIs}
 use Rattle.child.specs.declared.Child.{Child}
 
@@ -46,7 +47,7 @@ pub record Facts (ws : Words) (q : List ℤ) (e : Entry) (w : List ℕ) (p c f :
   pub p-small : p < 64
   pub c-small : c < 8
   pub own-small : f < 8
-  pub c-option : Option ws p c
+  pub c-feasible : Feasible ws p c
   pub cost-fits : SFits w64 (e .cost)
   pub movable : Movable (e .cost) (getD w p 0) (rowOf q p c) (rowOf q p f)
   pub plan-is : walkBy (action ws) (chosen ws (e .plan) p c) (stateCount ws) 0 (0 ∷ []) ≡ childEntry ws e p .plan
@@ -63,33 +64,33 @@ module _ (ws : Words) (ok : bookNumber ws ≡ 0) (q : List ℤ) (rows : RowsOf w
   fits d r =
       fits64 4000000000000000000 (d .cost)
       (subst (λ (z : ℤ). natAbs z ≤ 4000000000000000000) (sym (r .cost-is))
-      (to-go-fits ws ok (d .plan) (togo ws 0) 0 (omega (arith, togo-start ws ok)))) (lit< tt)
+      (to-go-fits ws ok (d .plan) (true-T (plan-model ws ok d r)) (togo ws 0) 0 (omega (arith, togo-start ws ok)))) (lit< tt)
 
   module _ (w : List ℕ) (wo : WeightsOf ws (e .plan) w) (p c mask : ℕ) (ch : ChildAt ws e p c mask) where
     abbrev row : ℕ → ℤ
-    row = through (scale ws) (action ws) (options ws) (togo ws p) p
+    row = through (scale ws) (action ws) (feasible ws) (togo ws p) p
 
     p-small : p < 64
     p-small = omega (arith, ch .state, accepted ws ok .sizes .s-high)
 
     own-small : byteAt (e .plan) p < 8
-    own-small = option-small ws ok p (ch .state) (ch .own)
+    own-small = feasible-small ws ok p (ch .state) (ch .own)
 
-    c-option : Option ws p c
-    c-option = left-option ws p (maskAt e p) c (ch .some)
+    c-feasible : Feasible ws p c
+    c-feasible = left-feasible ws p (maskAt e p) c (ch .some)
 
     c-small : c < 8
-    c-small = option-small ws ok p (ch .state) c-option
+    c-small = feasible-small ws ok p (ch .state) c-feasible
 
     here : Reaches (action ws) p 0 (0 ∷ []) (e .plan)
     here = reaches-here ws ok e ri p (ch .state) (ch .from) (λ b. omega (arith, b, own-small))
 
-    row-is : (d : ℕ) → Option ws p d → rowOf q p d ≡ row d
+    row-is : (d : ℕ) → Feasible ws p d → rowOf q p d ≡ row d
     row-is d h = rows .through-is p d (ch .state) h
 
     moves : Movable (e .cost) (getD w p 0) (rowOf q p c) (rowOf q p (byteAt (e .plan) p))
     moves =
-        rw (wo .at p (ch .state), row-is c c-option, row-is (byteAt (e .plan) p) (ch .own), ch .next)
+        rw (wo .at p (ch .state), row-is c c-feasible, row-is (byteAt (e .plan) p) (ch .own), ch .next)
         (movable ws ok e ri p (ch .state) (ch .from) here (c, ch .some))
 
     plan-is : walkBy (action ws) (chosen ws (e .plan) p c) (stateCount ws) 0 (0 ∷ []) ≡ childEntry ws e p .plan
@@ -99,7 +100,7 @@ module _ (ws : Words) (ok : bookNumber ws ≡ 0) (q : List ℤ) (rows : RowsOf w
 
     cost-is : e .cost +ℤ pos (getD w p 0) *ℤ (rowOf q p c -ℤ rowOf q p (byteAt (e .plan) p)) ≡ childEntry ws e p .cost
     cost-is =
-        rw (wo .at p (ch .state), row-is c c-option, row-is (byteAt (e .plan) p) (ch .own), ch .next)
+        rw (wo .at p (ch .state), row-is c c-feasible, row-is (byteAt (e .plan) p) (ch .own), ch .next)
         (sym (cost-moves ws ok e ri p (ch .from) here (c, ch .some)))
 
     child-right′ : Right ws (childEntry ws e p)
@@ -116,7 +117,7 @@ module _ (ws : Words) (ok : bookNumber ws ≡ 0) (q : List ℤ) (rows : RowsOf w
           p-small = p-small;
           c-small = c-small;
           own-small = own-small;
-          c-option = c-option;
+          c-feasible = c-feasible;
           cost-fits = fits e ri;
           movable = moves;
           plan-is = plan-is;
@@ -142,7 +143,7 @@ module _ (ws : Words) (ok : bookNumber ws ≡ 0) (e : Entry) (ri : Right ws e) w
 
   pub action-or-none : (p : ℕ) → p < stateCount ws → ActionOrNone ws (e .plan) p
   action-or-none p h =
-      (omega (arith, policy-long ws ok (e .plan) (plan-model ws ok e ri)), byte-cases ws ok (e .plan) (plan-model ws ok e ri) p h)
+      (omega (arith, policy-long ws ok (e .plan) (plan-model ws ok e ri)), byte-feasible ws ok e ri p h)
 
 -- ---- a child, or none
 
@@ -155,4 +156,4 @@ module _ (k : ℕ) (ws : Words) (bs : Policy) (p : ℕ) (d : Child) (es : List E
 
 pub none-is : (ws : Words) (e : Entry) (p : ℕ) (d : Child) → d .action ≡ 255 → ((k : ℕ) (es : List Entry) → es ≡ admitted ws k e p es) → ChildIs ws
     e p d
-none-is ws e p d h n = record { joins = λ k es. if-none k ws (e .plan) p d es h ∙ n k es; option = inl h }
+none-is ws e p d h n = record { joins = λ k es. if-none k ws (e .plan) p d es h ∙ n k es; goes-on = inl h }

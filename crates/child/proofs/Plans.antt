@@ -18,14 +18,14 @@ use Rattle.build.specs.Best.{bestAt}
 use Rattle.build.specs.Walk.{walkBy, chosen, Usable}
 use Rattle.build.proofs.Split.{split-before, split-here, split-after}
 use Rattle.build.proofs.Walk.{walk-same, walk-greedy}
-use Rattle.accepted.specs.Bytes.{byte-cases, policy-long}
+use Rattle.accepted.specs.Bytes.{feasible-cases, policy-long}
 
 module _ (ws : Words) (ok : bookNumber ws ≡ 0) (e : Entry) (ri : Right ws e) where
   pub usable : (p : ℕ) → p < stateCount ws → Usable ws (e .plan) p
   usable p h s l =
       let state : s < stateCount ws = omega arith in (
         omega (arith, policy-long ws ok (e .plan) (plan-model ws ok e ri)),
-        byte-cases ws ok (e .plan) (plan-model ws ok e ri) s state,
+        feasible-cases ws ok (e .plan) (plan-model ws ok e ri) s state,
       )
 
   module _ (p : ℕ) (from : e .split ≤ p) where

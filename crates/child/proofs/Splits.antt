@@ -10,26 +10,26 @@ use borrow.Author.Tests.{le-leb, ne-eqb, eq-eqb}
 use lib.Dec.{T, T-not, leb}
 use lib.IntN.{ℤ}
 use Rattle.model.specs.Lists.{isIn}
-use Rattle.model.specs.Model.{Words, scale, stateCount, togo, action, options}
+use Rattle.model.specs.Model.{Words, scale, stateCount, togo, action}
 use Rattle.model.specs.Questions.{bookNumber}
 use Rattle.model.specs.Policy.{Policy}
 use Rattle.model.specs.Path.{byteAt}
-use Rattle.model.specs.Recursion.{bestOf}
+use Rattle.model.specs.Recursion.{bestOf, feasible}
 use Rattle.questions.specs.Ranges.{and-right}
 use Rattle.laws.specs.Members.{In, Every, every-in, in-every, isIn-in, in-isIn, true-T, false-T}
 use Rattle.laws.specs.ToGo.{through-same}
 use Rattle.laws.specs.Policies.{reachedFrom}
 use Rattle.laws.specs.First.{first-byte}
 use Rattle.laws.specs.Best.{best-in, best-cases}
-use Rattle.accepted.specs.Options.{Option, Alive, option-small}
+use Rattle.accepted.specs.Options.{Feasible, Alive, feasible-small}
 use Rattle.accepted.specs.Shape.{shape}
 use Rattle.accepted.specs.Demands.{reached, policy-bytes}
 use Rattle.build.specs.Best.{bestAt}
 use Rattle.splits.specs.Parts.{Reaches, reaches-is}
 use Rattle.stored.specs.Entry.{Entry}
-use Rattle.stored.specs.Lists.{left, left-option, listsOf, lists-after}
+use Rattle.stored.specs.Lists.{left, left-feasible, listsOf, lists-after}
 use Rattle.stored.specs.Children.{Right, maskAt, childEntry, addIf, splitsAt, plan-model}
-use Rattle.accepted.specs.Bytes.{byte-cases, policy-long}
+use Rattle.accepted.specs.Bytes.{feasible-cases, policy-long}
 
 -- a first best action tells whether a list has one
 best-some : (f : ℕ → ℤ) (xs : List ℕ) → (bestOf f xs ≡ 255 → ⊥) → In (bestOf f xs) xs
@@ -46,6 +46,11 @@ add-some (x ∷ xs) c k i = refl
 add-none : (b : Bool) (k : Entry) → addIf b [] k [] ≡ []
 add-none true k = refl
 add-none false k = refl
+
+-- the byte of a candidate at a state is a feasible action, or 255
+pub byte-feasible : (ws : Words) (ok : bookNumber ws ≡ 0) (e : Entry) → Right ws e → (p : ℕ) → p < stateCount ws
+    → (byteAt (e .plan) p ≡ 255) ⊎ Feasible ws p (byteAt (e .plan) p)
+byte-feasible ws ok e ri = feasible-cases ws ok (e .plan) (plan-model ws ok e ri)
 
 module _ (ws : Words) (ok : bookNumber ws ≡ 0) (e : Entry) (ri : Right ws e) (p : ℕ) (state : p < stateCount ws) (from : e .split ≤ p) where
   -- a state that is not reached has byte 255, and no child
@@ -64,15 +69,15 @@ module _ (ws : Words) (ok : bookNumber ws ≡ 0) (e : Entry) (ri : Right ws e) (
       small : Every (λ c. c < 8) (left ws p (maskAt e p))
       small =
           in-every (λ c. c < 8) (left ws p (maskAt e p))
-          (λ c i. option-small ws ok p state (left-option ws p (maskAt e p) c i))
+          (λ c i. feasible-small ws ok p state (left-feasible ws p (maskAt e p) c i))
 
-  -- any other byte is an option of a reached state
+  -- any other byte is a feasible action of a reached state
   module _ (other : byteAt (e .plan) p ≡ 255 → ⊥) where
-    pub own-option : Option ws p (byteAt (e .plan) p)
-    own-option = ⊎-elim (λ b. absurd (other b)) (λ o. o) (byte-cases ws ok (e .plan) (plan-model ws ok e ri) p state)
+    pub own-feasible : Feasible ws p (byteAt (e .plan) p)
+    own-feasible = ⊎-elim (λ b. absurd (other b)) (λ o. o) (byte-feasible ws ok e ri p state)
 
     pub own-small : byteAt (e .plan) p < 8
-    own-small = option-small ws ok p state own-option
+    own-small = feasible-small ws ok p state own-feasible
 
     pub reaches-here : Reaches (action ws) p 0 (0 ∷ []) (e .plan)
     reaches-here = go (isIn p (reached ws (e .plan))) refl
@@ -108,5 +113,5 @@ module _ (ws : Words) (ok : bookNumber ws ≡ 0) (e : Entry) (ri : Right ws e) (
           state,
         )
         ∙ ap₂ bestOf
-        (through-same (scale ws) (action ws) (shape ws ok .later) (listsOf ws e) (options ws) (e .split) (lists-after ws e) (togo ws p) p from)
+        (through-same (scale ws) (action ws) (shape ws ok .later) (listsOf ws e) (feasible ws) (e .split) (lists-after ws e) (togo ws p) p from)
         (lists-after ws e p l)

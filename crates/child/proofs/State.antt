@@ -13,11 +13,11 @@ use lib.IntN.{ℤ}
 use lib.ListN.{getD}
 use Rattle.model.specs.Lists.{upFrom}
 use Rattle.model.specs.Questions.{bookNumber}
-use Rattle.build.specs.Best.{RowsOf, SecondOf, secondAt}
+use Rattle.build.specs.Best.{RowsOf, BestOf, SecondOf, secondAt}
 use Rattle.build.proofs.Best.{row-best}
-use Rattle.model.specs.Model.{Words, scale, stateCount, togo, actionCount, action, options}
+use Rattle.model.specs.Model.{Words, scale, stateCount, togo, actionCount, action}
 use Rattle.model.specs.Path.{byteAt}
-use Rattle.model.specs.Recursion.{bestOf, through}
+use Rattle.model.specs.Recursion.{bestOf, through, feasible}
 use Rattle.table.specs.Table.{rowOf}
 use Rattle.sets.specs.Sets.{with, free}
 use Rattle.accepted.specs.Bytes.{byte-is}
@@ -26,7 +26,7 @@ use Rattle.stored.specs.Entry.{Entry, earlierEntry}
 use Rattle.stored.specs.Lists.{left}
 use Rattle.stored.specs.Children.{Right, maskAt, childEntry}
 use Rattle.stored.specs.Runs.{itself}
-use Rattle.child.proofs.Splits.{none-unreached, none-left, own-option, own-small, own-best, one-child}
+use Rattle.child.proofs.Splits.{none-unreached, none-left, own-feasible, own-small, own-best, one-child}
 use Rattle.child.specs.Children.{nextBy, ChildAt, joined, admitted}
 use Rattle.child.proofs.Children.{in-plan}
 
@@ -48,10 +48,10 @@ module _ (ws : Words) (ok : bookNumber ws ≡ 0) (q : List ℤ) (rows : RowsOf w
     pub small : f < 8
     small = omega (arith, byte, own-small ws ok e ri p state from other′)
 
-    module _ (best : List ℕ) (so : SecondOf ws best) (m r : ℕ) (mask-is : m ≡ with (cond (eqb p (e .split)) (e .mask) 0) f)
+    module _ (best : List ℕ) (bo : BestOf ws best) (so : SecondOf ws best) (m r : ℕ) (mask-is : m ≡ with (cond (eqb p (e .split)) (e .mask) 0) f)
         (r-is : r ≡ nextBy ws q best (e .split) p m) where
       abbrev cost : ℕ → ℤ
-      cost = through (scale ws) (action ws) (options ws) (togo ws p) p
+      cost = through (scale ws) (action ws) (feasible ws) (togo ws p) p
 
       mask-at : m ≡ maskAt e p
       mask-at = mask-is ∙ ap (with (cond (eqb p (e .split)) (e .mask) 0)) byte
@@ -67,10 +67,10 @@ module _ (ws : Words) (ok : bookNumber ws ≡ 0) (q : List ℤ) (rows : RowsOf w
         where
           go : (e .split ≡ p) ⊎ (e .split < p) → nextBy ws q best (e .split) p m ≡ bestOf cost (left ws p (maskAt e p))
           go (inl h) =
-              ap (λ (t : Bool). cond t (bestOf (rowOf q p) (free m (upFrom 0 (actionCount ws p)))) (getD best (64 + p) 0)) (eq-eqb (e .split) p h)
-              ∙ row-best ws p q rows state m ∙ ap (λ (m : ℕ). bestOf cost (left ws p m)) mask-at
+              ap (λ (t : Bool). cond t (bestOf (rowOf q p) (free m (free (getD best (128 + p) 0) (upFrom 0 (actionCount ws p))))) (getD best (64 + p) 0)) (eq-eqb (e .split) p h)
+              ∙ row-best ws p (getD best (128 + p) 0) (bo .barred p state .leaves) q rows state m ∙ ap (λ (m : ℕ). bestOf cost (left ws p m)) mask-at
           go (inr l) =
-              ap (λ (t : Bool). cond t (bestOf (rowOf q p) (free m (upFrom 0 (actionCount ws p)))) (getD best (64 + p) 0))
+              ap (λ (t : Bool). cond t (bestOf (rowOf q p) (free m (free (getD best (128 + p) 0) (upFrom 0 (actionCount ws p))))) (getD best (64 + p) 0))
               (ne-eqb (e .split) p (λ h. omega arith))
               ∙ so p state ∙ second l
 
@@ -83,7 +83,7 @@ module _ (ws : Words) (ok : bookNumber ws ≡ 0) (q : List ℤ) (rows : RowsOf w
             record {
               state = state;
               from = from;
-              own = own-option ws ok e ri p state from other′;
+              own = own-feasible ws ok e ri p state from other′;
               mask-is = mask-at;
               next = next;
               some = one-child ws ok e ri p state from other′ cost r next some .0;

@@ -9,12 +9,12 @@ use lib.Dec.{eqb}
 use lib.IntN.{ℤ}
 use lib.ListN.{getD, take}
 use Rattle.model.specs.Lists.{insert, upFrom}
-use Rattle.model.specs.Model.{Words, scale, stateCount, togo, actionCount, action, options}
+use Rattle.model.specs.Model.{Words, scale, stateCount, togo, actionCount, action}
 use Rattle.model.specs.Policy.{Policy}
 use Rattle.model.specs.Path.{byteAt}
-use Rattle.model.specs.Recursion.{bestOf, through}
+use Rattle.model.specs.Recursion.{bestOf, through, feasible}
 use Rattle.laws.specs.Members.{In}
-use Rattle.accepted.specs.Options.{Option}
+use Rattle.accepted.specs.Options.{Feasible}
 use Rattle.sets.specs.Sets.{free}
 use Rattle.table.specs.Table.{rowOf}
 use Rattle.build.specs.Walk.{walkBy, chosen}
@@ -37,15 +37,16 @@ pub record Parenting (ws : Words) (e : Parent) (bs : Policy) (w : List ℕ) : Ty
 
 -- the next action at state p, by the table of costs at the split state and by that of best actions after it
 abbrev pub nextBy : Words → List ℤ → List ℕ → ℕ → ℕ → ℕ → ℕ
-nextBy ws q best split p mask = cond (eqb split p) (bestOf (rowOf q p) (free mask (upFrom 0 (actionCount ws p)))) (getD best (64 + p) 0)
+nextBy ws q best split p mask =
+    cond (eqb split p) (bestOf (rowOf q p) (free mask (free (getD best (128 + p) 0) (upFrom 0 (actionCount ws p))))) (getD best (64 + p) 0)
 
 -- e is split at state p, where c is the next best action after those barred, `mask` among them its own
 pub record ChildAt (ws : Words) (e : Entry) (p c mask : ℕ) : Type 0 where
   pub state : p < stateCount ws
   pub from : e .split ≤ p
-  pub own : Option ws p (byteAt (e .plan) p)
+  pub own : Feasible ws p (byteAt (e .plan) p)
   pub mask-is : mask ≡ maskAt e p
-  pub next : c ≡ bestOf (through (scale ws) (action ws) (options ws) (togo ws p) p) (left ws p (maskAt e p))
+  pub next : c ≡ bestOf (through (scale ws) (action ws) (feasible ws) (togo ws p) p) (left ws p (maskAt e p))
   pub some : In c (left ws p (maskAt e p))
 
 -- the child d of the bytes bs, split at state p
@@ -68,4 +69,4 @@ joinedIf k ws bs p d es = cond (eqb (d .action) 255) es (joined k (childOf ws bs
 -- d is the child of e at state p, or none where there is none
 pub record ChildIs (ws : Words) (e : Entry) (p : ℕ) (d : Child) : Type 0 where
   pub joins : (k : ℕ) (es : List Entry) → joinedIf k ws (e .plan) p d es ≡ admitted ws k e p es
-  pub option : (d .action ≡ 255) ⊎ Option ws p (d .action)
+  pub goes-on : (d .action ≡ 255) ⊎ Feasible ws p (d .action)

@@ -11,7 +11,7 @@ ghost use Rattle.model.specs.Model.{stateCount};
 ghost use Rattle.index.specs.Index.{Checked};
 ghost use Rattle.sets.specs.Sets.{with};
 ghost use Rattle.table.specs.Table.{rowOf};
-ghost use Rattle.build.specs.Best.{RowsOf, SecondOf};
+ghost use Rattle.build.specs.Best.{RowsOf, BestOf, SecondOf};
 ghost use Rattle.child.specs.Move.{Movable};
 ghost use Rattle.child.specs.Children.{Parenting, entryOf, nextBy, ChildIs};
 
@@ -66,23 +66,24 @@ fn no_child() -> Child
     }
 }
 
-// The best action of state p that is not in `mask`, the set barred when a candidate is split there. After its own split state only its own action is
-// barred, which is the first best one: the second best is next.
+// The best action of state p that is not in `mask`, the set barred when a candidate is split there, nor among those that no policy can take. After its
+// own split state only its own action is barred, which is the first best one: the second best is next.
 fn next_action(
     b: &[i32],
     z: Sizes,
     q: &[i64; 512],
-    best: &[usize; 128],
+    best: &[usize; 192],
     split: usize,
     p: usize,
     mask: u8,
 ) -> usize
-    requires { ⌜ Checked (now b) z × (p < stateCount (now b)) ⌝ }
+    requires { ⌜ Checked (now b) z × BestOf (now b) (now best) × (p < stateCount (now b)) ⌝ }
     ensures { λ r. ⌜ r ≡ nextBy (now (b .entry)) (now (q .entry)) (now (best .entry)) split p mask ⌝ }
 {
     if split == p {
         let n = index::count(b, z, p);
-        return table::best_action(q, p, n, mask);
+        let all = sets::union8(mask, best[128 + p] as u8);
+        return table::best_action(q, p, n, all);
     }
     best[64 + p]
 }
@@ -92,13 +93,13 @@ pub fn child_at(
     b: &[i32],
     z: Sizes,
     q: &[i64; 512],
-    best: &[usize; 128],
+    best: &[usize; 192],
     w: &[usize; 64],
     plan: &[u8],
     e: Parent,
     p: usize,
 ) -> Child
-    requires { ⌜ Checked (now b) z × RowsOf (now b) (now q) × SecondOf (now b) (now best) × Parenting (now b) e (now plan) (now w) × (e .split ≤ p) × (p < stateCount (now b)) ⌝ }
+    requires { ⌜ Checked (now b) z × RowsOf (now b) (now q) × BestOf (now b) (now best) × SecondOf (now b) (now best) × Parenting (now b) e (now plan) (now w) × (e .split ≤ p) × (p < stateCount (now b)) ⌝ }
     ensures { λ r. ⌜ ChildIs (now (b .entry)) (entryOf e (now (plan .entry))) p r ⌝ }
 {
     let f = plan[p] as usize;

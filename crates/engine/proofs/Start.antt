@@ -1,16 +1,18 @@
 -- The first candidate: its first policy takes the first best action at each state that it reaches.
 -- Assumes nothing.
 use mathlib.Core.Path.{_≡_, sym, ap, _∙_}
+use mathlib.Core.Bool.{true}
 use mathlib.Core.List.{List, [], _∷_}
 use Prim.Native.Nat.{ℕ, _<_}
 use native.Mathlib.Decide.{decLt}
 use native.Mathlib.Omega.{arith}
 use lib.IntN.{ℤ}
 use lib.ListN.{length}
-use Rattle.model.specs.Model.{Words, scale, stateCount, togo, action, options}
+use Rattle.model.specs.Model.{Words, scale, stateCount, togo, action}
 use Rattle.model.specs.Questions.{bookNumber}
-use Rattle.model.specs.Policy.{Policy, isPolicy}
+use Rattle.model.specs.Policy.{Policy, isPolicy, hasPolicy}
 use Rattle.model.specs.Path.{byteAt}
+use Rattle.model.specs.Recursion.{feasible}
 use Rattle.laws.specs.Members.{T-true}
 use Rattle.accepted.specs.Demands.{bestPolicy, best-policy}
 use Rattle.build.specs.Best.{bestAt}
@@ -26,7 +28,7 @@ module _ (ws : Words) (ok : bookNumber ws ≡ 0) where
   pub first-walk : (bs : Policy) (c : ℕ) → c ≡ bestAt ws 0 → walkBy (action ws) (chosen ws bs 0 c) (stateCount ws) 0 (0 ∷ []) ≡ bestPolicy ws
   first-walk bs c h =
       walk-same (action ws) (chosen ws bs 0 c) (bestAt ws) (stateCount ws) 0 (0 ∷ []) (λ s a b. at s (decLt 0 s))
-      ∙ sym (walk-greedy (scale ws) (action ws) (options ws) (togo ws) (stateCount ws) 0 (0 ∷ []))
+      ∙ sym (walk-greedy (scale ws) (action ws) (feasible ws) (togo ws) (stateCount ws) 0 (0 ∷ []))
     where
       zero-is : (s : ℕ) → ¬ (0 < s) → s ≡ 0
       zero-is s n = omega arith
@@ -35,8 +37,8 @@ module _ (ws : Words) (ok : bookNumber ws ≡ 0) where
       at s (yes l) = split-after (byteAt bs) 0 c (bestAt ws) s l
       at s (no n) = split-here (byteAt bs) 0 c (bestAt ws) s (zero-is s n) ∙ h ∙ ap (bestAt ws) (sym (zero-is s n))
 
-  pub best-long : length (bestPolicy ws) ≡ stateCount ws
-  best-long = policy-long ws ok (bestPolicy ws) (T-true (isPolicy ws (bestPolicy ws)) (best-policy ws ok))
+  pub best-long : hasPolicy ws ≡ true → length (bestPolicy ws) ≡ stateCount ws
+  best-long has = policy-long ws ok (bestPolicy ws) (T-true (isPolicy ws (bestPolicy ws)) (best-policy ws ok has))
 
 -- the one entry of a pool, by what is equal to its parts
 pub first-alone : {s : ℕ} {x : ℤ} {bs : List ℕ} (P : Pool) (S : ℕ) (e : Entry) → s ≡ S → x ≡ e .cost → bs ≡ e .plan

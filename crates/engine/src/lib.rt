@@ -3,18 +3,20 @@
 // its set is among the first K.
 //
 // The pool goes from step to step by value. What is read of the book is lent: x (where each state stands), nx (the next states of each action), q (the
-// cost of each action) and best (the first and the second best action of each state).
+// cost of each action) and best (the first and the second best action of each state, and its actions that no policy can take).
 use book::Sizes;
 use child::Child;
 use child::Parent;
 use pool::Pool;
 ghost use mathlib.Core.Path.{_≡_};
+ghost use mathlib.Core.Bool.{true};
 ghost use mathlib.Core.List.{[], _∷_};
 ghost use Prim.Native.Nat.{_+_, _*_, _<_, _≤_};
 ghost use lib.ListN.{length, getD};
 ghost use Rattle.model.specs.Model.{stateCount, action};
 ghost use Rattle.model.specs.Questions.{bookNumber};
-ghost use Rattle.accepted.specs.Options.{Option};
+ghost use Rattle.model.specs.Policy.{hasPolicy};
+ghost use Rattle.accepted.specs.Options.{Feasible, Alive};
 ghost use Rattle.index.specs.Index.{Checked};
 ghost use Rattle.nexts.specs.Nexts.{NextsOf};
 ghost use Rattle.build.specs.Best.{BestOf, SecondOf};
@@ -35,13 +37,13 @@ fn row_of(
     b: &[i32],
     z: Sizes,
     nx: &[u64; 512],
-    best: &[usize; 128],
+    best: &[usize; 192],
     plan: &[u8],
     p: usize,
     c: usize,
     from: u64,
 ) -> [u8; 64]
-    requires { ⌜ Checked (now b) z × NextsOf (now b) (now nx) × BestOf (now b) (now best) × Usable (now b) (now plan) p × (p < stateCount (now b)) × Option (now b) p c × Walked (now b) (now plan) p from ⌝ }
+    requires { ⌜ Checked (now b) z × NextsOf (now b) (now nx) × BestOf (now b) (now best) × Usable (now b) (now plan) p × (p < stateCount (now b)) × Feasible (now b) p c × Walked (now b) (now plan) p from ⌝ }
     ensures { λ r. ⌜ RowOf (walkBy (action (now (b .entry))) (chosen (now (b .entry)) (now (plan .entry)) p c) (stateCount (now (b .entry))) 0 (0 ∷ [])) r ⌝ }
 {
     let s = z.s;
@@ -87,7 +89,7 @@ fn split_first(
     x: &[usize; 192],
     nx: &[u64; 512],
     q: &[i64; 512],
-    best: &[usize; 128],
+    best: &[usize; 192],
     plan: &[u8],
     mut pool: Pool,
 ) -> Pool
@@ -136,7 +138,7 @@ fn search(
     x: &[usize; 192],
     nx: &[u64; 512],
     q: &[i64; 512],
-    best: &[usize; 128],
+    best: &[usize; 192],
     mut pool: Pool,
     costs: &mut [i64],
     plans: &mut [u8],
@@ -170,11 +172,11 @@ fn first_pool(
     b: &[i32],
     z: Sizes,
     nx: &[u64; 512],
-    best: &[usize; 128],
+    best: &[usize; 192],
     cost: i64,
     k: usize,
 ) -> Pool
-    requires { ⌜ Checked (now b) z × NextsOf (now b) (now nx) × BestOf (now b) (now best) × (cost ≡ firstCandidate (now b) .cost) × (1 ≤ k) × (k ≤ 64) ⌝ }
+    requires { ⌜ Checked (now b) z × NextsOf (now b) (now nx) × BestOf (now b) (now best) × Alive (now b) 0 × (cost ≡ firstCandidate (now b) .cost) × (1 ≤ k) × (k ≤ 64) ⌝ }
     ensures { λ r. ⌜ Formed r × (r .most ≡ k) × (entries (stateCount (now (b .entry))) r ≡ firstCandidate (now (b .entry)) ∷ []) ⌝ }
 {
     let first = best[0];
@@ -183,16 +185,17 @@ fn first_pool(
     pool::single(k, z.s, cost, &row)
 }
 
-// The first k policies of a checked book and their costs, at the front of the lent slices; gives how many there are.
+// The first k policies of a checked book that has one, and their costs, at the front of the lent slices; gives how many there are.
 pub fn list(b: &[i32], k: usize, costs: &mut [i64], plans: &mut [u8]) -> usize
-    requires { ⌜ (bookNumber (now b) ≡ 0) × (1 ≤ k) × (k ≤ 64) × (k ≤ length (now costs)) × (k * stateCount (now b) ≤ length (now plans)) ⌝ }
+    requires { ⌜ (bookNumber (now b) ≡ 0) × (hasPolicy (now b) ≡ true) × (1 ≤ k) × (k ≤ 64) × (k ≤ length (now costs)) × (k * stateCount (now b) ≤ length (now plans)) ⌝ }
     ensures { λ r. ⌜ Ranked (now (b .entry)) k r (now (costs .entry)) (now (costs .exit)) (now (plans .entry)) (now (plans .exit)) ⌝ }
 {
     let z = book::read_sizes(b);
     let x = index::index(b, z);
     let nx = nexts::next_sets(b, z, &x);
-    let t = table::make_table(b, z, &x);
-    let best = build::best_actions(b, z, &t.q, k);
+    let m = feasible::find_barred(b, z, &x);
+    let t = table::make_table(b, z, &x, &m.off);
+    let best = build::best_actions(b, z, &t.q, &m.off, k);
     let start = first_pool(b, z, &nx, &best, t.v[0], k);
     search(b, z, &x, &nx, &t.q, &best, start, costs, plans)
 }

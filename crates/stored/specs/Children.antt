@@ -12,15 +12,16 @@ use borrow.Author.Tests.{le-leb, lt-leb, ne-eqb, eq-eqb}
 use lib.Dec.{T, eqb, leb}
 use lib.IntN.{ℤ}
 use Rattle.model.specs.Lists.{isIn}
-use Rattle.model.specs.Model.{Words, scale, stateCount, togo, action, options}
+use Rattle.model.specs.Model.{Words, scale, stateCount, togo, action}
 use Rattle.model.specs.Questions.{bookNumber}
+use Rattle.model.specs.Recursion.{feasible}
 use Rattle.model.specs.Policy.{Policy, isPolicy, onward}
 use Rattle.model.specs.Path.{byteAt}
 use Rattle.laws.specs.Members.{In, in-one, Every, isIn-in, true-T, T-true}
 use Rattle.laws.specs.Policies.{IsPolicy, Reads, reads}
 use Rattle.laws.specs.First.{Lists, costFrom0, firstPolicy, is-policy}
-use Rattle.accepted.specs.Options.{Option, Alive}
-use Rattle.accepted.specs.Shape.{shape, policy-is}
+use Rattle.accepted.specs.Options.{Feasible, Alive, to-option}
+use Rattle.accepted.specs.Shape.{shape, policy-feasible}
 use Rattle.accepted.specs.Bytes.{policy-long}
 use Rattle.accepted.specs.Demands.{other-byte}
 use Rattle.sets.specs.Sets.{with, free-all}
@@ -28,7 +29,7 @@ use Rattle.splits.specs.Parts.{without, part, split-lt, split-eq, split-gt, Rea
 use Rattle.splits.specs.Kbest.{addChild, childrenFrom, childAt, children, child-lists}
 use Rattle.splits.specs.ChildCost.{child-front}
 use Rattle.stored.specs.Entry.{Entry}
-use Rattle.stored.specs.Lists.{left, left-option, listsOf, free-without, by-place, lists-before, lists-here, lists-after}
+use Rattle.stored.specs.Lists.{left, left-feasible, listsOf, free-without, by-place, lists-before, lists-here, lists-after}
 
 -- the first policy of lists of actions
 abbrev pub firstOf : Words → (ℕ → List ℕ) → Policy
@@ -45,7 +46,7 @@ pub record Right (ws : Words) (e : Entry) : Type 0 where
   pub split-state : e .split < stateCount ws
   -- the policies of its lists are the model's
   pub among : (u : Policy) → IsPolicy (action ws) (listsOf ws e) (stateCount ws) 0 (0 ∷ []) u
-      → IsPolicy (action ws) (options ws) (stateCount ws) 0 (0 ∷ []) u
+      → IsPolicy (action ws) (feasible ws) (stateCount ws) 0 (0 ∷ []) u
 
 -- the set that is barred at state p when a candidate is split there
 abbrev pub maskAt : Entry → ℕ → ℕ
@@ -88,13 +89,13 @@ module _ (ws : Words) (ok : bookNumber ws ≡ 0) (e : Entry) (ri : Right ws e) w
           subst (λ (n : ℕ). listsOf ws e n ≡ left ws n (cond (eqb n (e .split)) (e .mask) 0)) q
           (lists-here ws e ∙ sym (ap (λ (b : Bool). left ws (e .split) (cond b (e .mask) 0)) (eq-eqb (e .split) (e .split) refl)))
       go (inr l) =
-          lists-after ws e p l ∙ sym (free-all (options ws p))
+          lists-after ws e p l ∙ sym (free-all (feasible ws p))
           ∙ sym (ap (λ (b : Bool). left ws p (cond b (e .mask) 0)) (ne-eqb p (e .split) (λ q. omega arith)))
 
   -- what is left when e is split at p: its list there without its own action
   pub left-is : (p : ℕ) → e .split ≤ p → left ws p (maskAt e p) ≡ without (f p) (listsOf ws e p)
   left-is p h =
-      free-without (cond (eqb p (e .split)) (e .mask) 0) (f p) (options ws p) ∙ ap (without (f p)) (sym (lists-left p h))
+      free-without (cond (eqb p (e .split)) (e .mask) 0) (f p) (feasible ws p) ∙ ap (without (f p)) (sym (lists-left p h))
 
   -- the plan of e is a policy of its lists
   plan-policy : IsPolicy (action ws) (listsOf ws e) (stateCount ws) 0 (0 ∷ []) (e .plan)
@@ -104,7 +105,7 @@ module _ (ws : Words) (ok : bookNumber ws ≡ 0) (e : Entry) (ri : Right ws e) w
 
   -- and so of the model
   pub plan-model : isPolicy ws (e .plan) ≡ true
-  plan-model = T-true (isPolicy ws (e .plan)) (policy-is ws (e .plan) .1 (ri .among (e .plan) plan-policy))
+  plan-model = T-true (isPolicy ws (e .plan)) (policy-feasible ws ok (e .plan) .1 (ri .among (e .plan) plan-policy))
 
   -- a child at a reached state with an action left
   module _ (p : ℕ) (from : e .split ≤ p) (reached : Reaches (action ws) p 0 (0 ∷ []) (e .plan))
@@ -118,12 +119,12 @@ module _ (ws : Words) (ok : bookNumber ws ≡ 0) (e : Entry) (ri : Right ws e) w
     some′ : (c : ℕ) × In c (without (byteAt (firstOf ws (listsOf ws e)) p) (listsOf ws e p))
     some′ = (some .0, subst (λ (bs : Policy). In (some .0) (without (byteAt bs p) (listsOf ws e p))) (ri .plan-is) (subst (In (some .0)) (left-is p from) (some .1)))
 
-    after : (s : ℕ) → p < s → listsOf ws e s ≡ options ws s
+    after : (s : ℕ) → p < s → listsOf ws e s ≡ feasible ws s
     after s h = lists-after ws e s (omega arith)
 
     front : (s : ℕ) → s < p → byteAt (firstOf ws child) s ≡ byteAt (firstOf ws (listsOf ws e)) s
     front s h =
-        child-front (scale ws) (stateCount ws) (action ws) (togo ws) (shape ws ok) (Alive ws) (options ws) (listsOf ws e) (ri .lists) p after
+        child-front (scale ws) (stateCount ws) (action ws) (togo ws) (shape ws ok) (Alive ws) (feasible ws) (listsOf ws e) (ri .lists) p after
         reached′ some′ s h
 
     -- its lists are those of the child
@@ -161,8 +162,8 @@ module _ (ws : Words) (ok : bookNumber ws ≡ 0) (e : Entry) (ri : Right ws e) w
     where
       go : (b : Bool) → In g (Rattle.model.specs.Policy.allowed (listsOf ws e p) b) → b ≡ not (eqb g 255)
       go true i =
-          let o = left-option ws p (cond (eqb p (e .split)) (e .mask) 0) g (subst (In g) (lists-left p h) i) in
-          sym (ap not (ne-eqb g 255 (λ q. other-byte ws ok p s (subst (Option ws p) q o))))
+          let o = left-feasible ws p (cond (eqb p (e .split)) (e .mask) 0) g (subst (In g) (lists-left p h) i) in
+          sym (ap not (ne-eqb g 255 (λ q. other-byte ws ok p s (to-option ws p 255 (subst (Feasible ws p) q o)))))
       go false i = sym (ap not (eq-eqb g 255 (in-one i)))
 
   -- before the split nothing is left

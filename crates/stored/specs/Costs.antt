@@ -5,11 +5,11 @@ use mathlib.Core.List.{List, [], _∷_}
 use Prim.Native.Nat.{ℕ, _+_, _≤_, _<_}
 use native.Mathlib.Omega.{arith}
 use lib.IntN.{ℤ, pos, _+ℤ_, _-ℤ_, _*ℤ_}
-use Rattle.model.specs.Model.{Words, scale, stateCount, togo, action, options}
+use Rattle.model.specs.Model.{Words, scale, stateCount, togo, action}
 use Rattle.model.specs.Questions.{bookNumber}
 use Rattle.model.specs.Policy.{Policy}
 use Rattle.model.specs.Path.{byteAt}
-use Rattle.model.specs.Recursion.{bestOf, through}
+use Rattle.model.specs.Recursion.{bestOf, through, feasible}
 use Rattle.laws.specs.Members.{In}
 use Rattle.laws.specs.ToGo.{through-same}
 use Rattle.accepted.specs.Options.{Alive}
@@ -27,7 +27,7 @@ module _ (ws : Words) (ok : bookNumber ws ≡ 0) (e : Entry) (ri : Right ws e) (
   child = childAt (scale ws) (stateCount ws) (action ws) (togo ws) (listsOf ws e) p
 
   abbrev row : ℕ → ℕ → ℤ
-  row s = through (scale ws) (action ws) (options ws) (togo ws s) s
+  row s = through (scale ws) (action ws) (feasible ws) (togo ws s) s
 
   -- the action that the child takes at p
   abbrev pub nextAt : ℕ
@@ -36,10 +36,10 @@ module _ (ws : Words) (ok : bookNumber ws ≡ 0) (e : Entry) (ri : Right ws e) (
   abbrev own : ℕ → ℕ
   own = byteAt (firstOf ws (listsOf ws e))
 
-  after : (s : ℕ) → p < s → listsOf ws e s ≡ options ws s
+  after : (s : ℕ) → p < s → listsOf ws e s ≡ feasible ws s
   after s h = lists-after ws e s (omega arith)
 
-  child-after : (s : ℕ) → p < s → child s ≡ options ws s
+  child-after : (s : ℕ) → p < s → child s ≡ feasible ws s
   child-after s h = split-gt own p (without (own p) (listsOf ws e p)) (listsOf ws e) s h ∙ after s h
 
   child-here : child p ≡ left ws p (maskAt e p)
@@ -49,7 +49,7 @@ module _ (ws : Words) (ok : bookNumber ws ≡ 0) (e : Entry) (ri : Right ws e) (
       ∙ sym (left-is ws ok e ri p from)
 
   rows-same : (s : ℕ) → p ≤ s → through (scale ws) (action ws) child (togo ws s) s ≡ row s
-  rows-same s h = through-same (scale ws) (action ws) (shape ws ok .later) child (options ws) p child-after (togo ws s) s h
+  rows-same s h = through-same (scale ws) (action ws) (shape ws ok .later) child (feasible ws) p child-after (togo ws s) s h
 
   -- the child's first policy takes: its parent's action before p, the next best at p, and first best actions after it
   pub best-before : (s : ℕ) → s < p → bestOf (through (scale ws) (action ws) child (togo ws s) s) (child s) ≡ byteAt (e .plan) s
@@ -60,14 +60,14 @@ module _ (ws : Words) (ok : bookNumber ws ≡ 0) (e : Entry) (ri : Right ws e) (
   pub best-here : bestOf (through (scale ws) (action ws) child (togo ws p) p) (child p) ≡ nextAt
   best-here = ap₂ bestOf (rows-same p (omega arith)) child-here
 
-  pub best-after : (s : ℕ) → p < s → bestOf (through (scale ws) (action ws) child (togo ws s) s) (child s) ≡ bestOf (row s) (options ws s)
+  pub best-after : (s : ℕ) → p < s → bestOf (through (scale ws) (action ws) child (togo ws s) s) (child s) ≡ bestOf (row s) (feasible ws s)
   best-after s h = ap₂ bestOf (rows-same s (omega arith)) (child-after s h)
 
   -- its cost is its parent's, moved by the reach weight of p times the difference of the two actions' costs
   pub cost-moves : Reaches (action ws) p 0 (0 ∷ []) (e .plan) → (some : (c : ℕ) × In c (left ws p (maskAt e p)))
       → childEntry ws e p .cost ≡ e .cost +ℤ pos (reachWeight (action ws) (e .plan) p) *ℤ (row p nextAt -ℤ row p (byteAt (e .plan) p))
   cost-moves reached some =
-      child-cost-by (scale ws) (stateCount ws) (action ws) (togo ws) (shape ws ok) (Alive ws) (options ws) (listsOf ws e) (ri .lists) p after
+      child-cost-by (scale ws) (stateCount ws) (action ws) (togo ws) (shape ws ok) (Alive ws) (feasible ws) (listsOf ws e) (ri .lists) p after
       (subst (Reaches (action ws) p 0 (0 ∷ [])) (ri .plan-is) reached)
       (some .0, subst (λ (bs : Policy). In (some .0) (without (byteAt bs p) (listsOf ws e p))) (ri .plan-is) (subst (In (some .0)) (left-is ws ok e ri p from) (some .1)))
       ∙ ap (λ (bs : Policy). costOf ws bs +ℤ pos (reachWeight (action ws) bs p)

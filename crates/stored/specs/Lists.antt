@@ -1,4 +1,4 @@
--- The lists of actions that a stored candidate stands for: its own bytes before the split state, what is not barred there, and every action after it.
+-- The lists of actions that a stored candidate stands for: its own bytes before the split state, what is not barred there, and every feasible action after it.
 -- Assumes nothing.
 use mathlib.Core.Path.{_≡_, refl, sym, ap, _∙_, subst, fun-ext}
 use mathlib.Core.Bool.{Bool, true, false, _||_, cond}
@@ -8,23 +8,24 @@ use native.Mathlib.Decide.{decLt}
 use native.Mathlib.Omega.{arith}
 use borrow.Author.Tests.{eqb-true, ne-eqb, eq-eqb}
 use lib.Dec.{eqb}
-use Rattle.model.specs.Model.{Words, options}
+use Rattle.model.specs.Model.{Words}
 use Rattle.model.specs.Path.{byteAt}
+use Rattle.model.specs.Recursion.{feasible}
 use Rattle.laws.specs.Members.{In}
-use Rattle.accepted.specs.Options.{Option}
+use Rattle.accepted.specs.Options.{Feasible}
 use Rattle.sets.specs.Sets.{has, with, free, has-with, free-all, free-in}
 use Rattle.splits.specs.Parts.{without, splitAt, split-lt, split-eq, split-gt}
 use Rattle.stored.specs.Entry.{Entry}
 
--- the options that set `mask` leaves at state p
+-- the feasible actions that set `mask` leaves at state p
 abbrev pub left : Words → ℕ → ℕ → List ℕ
-left ws p mask = free mask (options ws p)
+left ws p mask = free mask (feasible ws p)
 
-pub left-option : (ws : Words) (p mask c : ℕ) → In c (left ws p mask) → Option ws p c
-left-option ws p mask c i = free-in mask c (options ws p) i
+pub left-feasible : (ws : Words) (p mask c : ℕ) → In c (left ws p mask) → Feasible ws p c
+left-feasible ws p mask c i = free-in mask c (feasible ws p) i
 
 abbrev pub listsOf : Words → Entry → ℕ → List ℕ
-listsOf ws e = splitAt (byteAt (e .plan)) (e .split) (left ws (e .split) (e .mask)) (options ws)
+listsOf ws e = splitAt (byteAt (e .plan)) (e .split) (left ws (e .split) (e .mask)) (feasible ws)
 
 -- the set with c leaves what the set leaves, without c
 pub free-without : (m c : ℕ) (xs : List ℕ) → free (with m c) xs ≡ without c (free m xs)
@@ -56,17 +57,17 @@ by-place r x y a b c = fun-ext (λ s. go s (decLt s r) (decLt r s))
 
 module _ (ws : Words) (e : Entry) where
   pub lists-before : (s : ℕ) → s < e .split → listsOf ws e s ≡ byteAt (e .plan) s ∷ []
-  lists-before s h = split-lt (byteAt (e .plan)) (e .split) (left ws (e .split) (e .mask)) (options ws) s h
+  lists-before s h = split-lt (byteAt (e .plan)) (e .split) (left ws (e .split) (e .mask)) (feasible ws) s h
 
   pub lists-here : listsOf ws e (e .split) ≡ left ws (e .split) (e .mask)
-  lists-here = split-eq (byteAt (e .plan)) (e .split) (left ws (e .split) (e .mask)) (options ws)
+  lists-here = split-eq (byteAt (e .plan)) (e .split) (left ws (e .split) (e .mask)) (feasible ws)
 
-  pub lists-after : (s : ℕ) → e .split < s → listsOf ws e s ≡ options ws s
-  lists-after s h = split-gt (byteAt (e .plan)) (e .split) (left ws (e .split) (e .mask)) (options ws) s h
+  pub lists-after : (s : ℕ) → e .split < s → listsOf ws e s ≡ feasible ws s
+  lists-after s h = split-gt (byteAt (e .plan)) (e .split) (left ws (e .split) (e .mask)) (feasible ws) s h
 
 -- split at state 0 with nothing barred: every list of the model
-pub lists-start : (ws : Words) (e : Entry) → e .split ≡ 0 → e .mask ≡ 0 → listsOf ws e ≡ options ws
+pub lists-start : (ws : Words) (e : Entry) → e .split ≡ 0 → e .mask ≡ 0 → listsOf ws e ≡ feasible ws
 lists-start ws e z m =
-    by-place (e .split) (listsOf ws e) (options ws) (λ s h. absurd (omega (arith, z)))
-    (lists-here ws e ∙ ap (left ws (e .split)) m ∙ free-all (options ws (e .split)))
+    by-place (e .split) (listsOf ws e) (feasible ws) (λ s h. absurd (omega (arith, z)))
+    (lists-here ws e ∙ ap (left ws (e .split)) m ∙ free-all (feasible ws (e .split)))
     (lists-after ws e)

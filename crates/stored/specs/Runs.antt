@@ -8,9 +8,10 @@ use Prim.Native.Nat.{ℕ, zero, suc, _-_}
 use lib.IntN.{ℤ}
 use lib.Signed.{ltZ}
 use lib.ListN.{take}
-use Rattle.model.specs.Lists.{insert}
-use Rattle.model.specs.Model.{Words, scale, stateCount, togo, action, options}
+use Rattle.model.specs.Lists.{insert, sorted}
+use Rattle.model.specs.Model.{Words, scale, stateCount, togo, action}
 use Rattle.model.specs.Questions.{bookNumber}
+use Rattle.model.specs.Recursion.{feasible}
 use Rattle.model.specs.Policy.{Policy, policies}
 use Rattle.model.specs.Path.{policyCost}
 use Rattle.model.specs.Order.{lower, before, comesBefore, ranking, rankingCosts}
@@ -19,7 +20,7 @@ use Rattle.laws.specs.Sorting.{sorted-same}
 use Rattle.laws.specs.Policies.{IsPolicy}
 use Rattle.laws.specs.First.{Lists}
 use Rattle.accepted.specs.Options.{Alive}
-use Rattle.accepted.specs.Shape.{shape, lists}
+use Rattle.accepted.specs.Shape.{shape, lists, policies-feasible}
 use Rattle.accepted.specs.Demands.{cost-from, policies-are, bestPolicy, in-list}
 use Rattle.splits.specs.Search.{earlier, admit, run}
 use Rattle.splits.specs.Kbest.{children, the-best}
@@ -120,15 +121,15 @@ module _ (ws : Words) (ok : bookNumber ws ≡ 0) where
   unfoldable pub startEntry : Entry
   startEntry = record { cost = costOf ws (bestPolicy ws); plan = bestPolicy ws; split = 0; mask = 0 }
 
-  start-lists : listsOf ws startEntry ≡ options ws
+  start-lists : listsOf ws startEntry ≡ feasible ws
   unfolding startEntry
   start-lists = lists-start ws startEntry refl refl
 
-  pub start-right : Right ws startEntry
+  pub start-right : Alive ws 0 → Right ws startEntry
   unfolding startEntry
-  start-right =
+  start-right a =
       record {
-        lists = subst (Lists (Alive ws) (action ws)) (sym start-lists) (lists ws ok);
+        lists = subst (Lists (Alive ws) (action ws)) (sym start-lists) (lists ws ok a);
         plan-is = ap (firstOf ws) (sym start-lists);
         cost-is = refl;
         split-state = shape ws ok .some-state;
@@ -139,21 +140,22 @@ module _ (ws : Words) (ok : bookNumber ws ≡ 0) where
   cost-same : (bs : Policy) → In bs (policies ws) → policyCost ws bs ≡ costOf ws bs
   cost-same bs i = cost-from ws ok bs (policies-are ws ok bs .0 i)
 
-  pub lists-ranking : (K : ℕ) → map planOf (runEntries ws K K (startEntry ∷ [])) ≡ ranking ws K
-  unfolding ranking comesBefore policies
-  lists-ranking K =
-      runs-are K K (startEntry ∷ []) (start-right, tt) .0
+  pub lists-ranking : Alive ws 0 → (K : ℕ) → map planOf (runEntries ws K K (startEntry ∷ [])) ≡ ranking ws K
+  unfolding ranking comesBefore
+  lists-ranking a K =
+      runs-are K K (startEntry ∷ []) (start-right a, tt) .0
       ∙ ap (λ (os : ℕ → List ℕ). run lt (firstOf ws) (children (scale ws) (stateCount ws) (action ws) (togo ws)) K K (os ∷ [])) start-lists
-      ∙ the-best (scale ws) (stateCount ws) (action ws) (togo ws) (shape ws ok) (Alive ws) (options ws) (lists ws ok) K
+      ∙ the-best (scale ws) (stateCount ws) (action ws) (togo ws) (shape ws ok) (Alive ws) (feasible ws) (lists ws ok a) K
+      ∙ ap (λ (us : List Policy). take K (sorted lt us)) (sym (policies-feasible ws ok))
       ∙ sym (ap (take K) (sorted-same (before (policyCost ws)) lt (policies ws)
       (λ x y i j. ap₂ (λ (u v : ℤ). ltZ u v || (not (ltZ v u) && lower x y)) (cost-same x i) (cost-same y j))))
 
-  pub lists-costs : (K : ℕ) → map costIn (runEntries ws K K (startEntry ∷ [])) ≡ rankingCosts ws K
+  pub lists-costs : Alive ws 0 → (K : ℕ) → map costIn (runEntries ws K K (startEntry ∷ [])) ≡ rankingCosts ws K
   unfolding rankingCosts
-  lists-costs K =
-      cost-map (runEntries ws K K (startEntry ∷ [])) (runs-are K K (startEntry ∷ []) (start-right, tt) .1)
-      (λ bs i. subst (In bs) (lists-ranking K) i)
-      ∙ ap (map (policyCost ws)) (lists-ranking K)
+  lists-costs a K =
+      cost-map (runEntries ws K K (startEntry ∷ [])) (runs-are K K (startEntry ∷ []) (start-right a, tt) .1)
+      (λ bs i. subst (In bs) (lists-ranking a K) i)
+      ∙ ap (map (policyCost ws)) (lists-ranking a K)
     where
       cost-map : (es : List Entry) → Every (Right ws) es → ((bs : Policy) → In bs (map planOf es) → In bs (ranking ws K))
           → map costIn es ≡ map (policyCost ws) (map planOf es)

@@ -148,7 +148,3 @@ module _ (f : ℕ → ℤ) (best c : ℕ) (h : best < 8) (k : c < 8) where
 
   pub keep-old : ltZ (f c) (f best) ≡ false → best ≡ better f best c
   keep-old e = sym (two f best c h k ∙ ap (λ (t : Bool). pick t best c) (le-not-lt (f best) (f c) ∙ ap not e))
-
--- the first best of all actions is one of them
-pub best-below : (f : ℕ → ℤ) (n : ℕ) → 1 ≤ n → bestOf f (upFrom 0 n) < n
-best-below f n h = omega (arith, upFrom-in 0 n (best-in f (upFrom 0 n) 0 (in-upFrom 0 n 0 (omega arith) (omega arith))))

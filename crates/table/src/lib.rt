@@ -11,10 +11,10 @@ ghost use Rattle.model.specs.Model.{stateCount};
 ghost use Rattle.model.specs.Recursion.{bestOf};
 ghost use Rattle.index.specs.Index.{Indexed};
 ghost use Rattle.sets.specs.Sets.{has, free};
-ghost use Rattle.costs.specs.Terms.{Bounded};
-ghost use Rattle.table.specs.Table.{Chosen, better, rowOf, Filled, TableOf};
+ghost use Rattle.feasible.specs.Barred.{Leaves, BarredOf};
+ghost use Rattle.table.specs.Table.{Chosen, better, rowOf, RowBounded, Filled, TableOf};
 
-// At 8 × p + c the cost of action c of state p with best actions ever after; at p the least cost-to-go of state p.
+// At 8 × p + c the cost of action c of state p with best actions ever after, if a policy can take it; at p the least cost-to-go of state p, if it has one.
 pub struct Table {
     pub q: [i64; 512],
     pub v: [i64; 64],
@@ -59,9 +59,17 @@ pub fn best_action(q: &[i64; 512], p: usize, n: usize, mask: u8) -> usize
     best
 }
 
-// The costs of the actions of state p, where v has the least costs-to-go of the states after it.
-fn fill_row(b: &[i32], z: Sizes, x: &[usize; 192], p: usize, q: &mut [i64; 512], v: &[i64; 64])
-    requires { ⌜ Indexed (now b) z (now x) × (p < stateCount (now b)) × Bounded (now b) p (now v) × (length (now q) ≡ 512) ⌝ }
+// The costs of the actions of state p that are not in the set `off`, where v has the least costs-to-go of their next states.
+fn fill_row(
+    b: &[i32],
+    z: Sizes,
+    x: &[usize; 192],
+    p: usize,
+    off: u8,
+    q: &mut [i64; 512],
+    v: &[i64; 64],
+)
+    requires { ⌜ Indexed (now b) z (now x) × (p < stateCount (now b)) × Leaves (now b) p off × RowBounded (now b) p (now v) × (length (now q) ≡ 512) ⌝ }
     ensures { λ r. ⌜ Filled (now (b .entry)) p (now (v .entry)) (now (q .entry)) (now (q .exit)) ⌝ }
 {
     let n = index::count(b, z, p);
@@ -69,9 +77,11 @@ fn fill_row(b: &[i32], z: Sizes, x: &[usize; 192], p: usize, q: &mut [i64; 512],
     let mut j = x[p];
     let mut c: usize = 0;
     while c < n {
-        let a = lines::of_line(b, z, x, p, c, j);
-        let y = costs::action_cost(b, a, p, c, unit, v);
-        q[8 * p + c] = y;
+        if !sets::has8(off, c as u8) {
+            let a = lines::of_line(b, z, x, p, c, j);
+            let y = costs::action_cost(b, a, p, c, unit, v);
+            q[8 * p + c] = y;
+        }
         j = index::line_after(b, z, p, c, j);
         c = c + 1;
     }
@@ -89,37 +99,48 @@ pub fn zeros() -> [i64; 64]
     [0; 64]
 }
 
-// The entry of the best action of state p.
-fn least_of_row(q: &[i64; 512], p: usize, n: usize) -> i64
-    requires { ⌜ (p < 64) × (1 ≤ n) × (n ≤ 8) ⌝ }
-    ensures { λ r. ⌜ r ≡ rowOf (now (q .entry)) p (bestOf (rowOf (now (q .entry)) p) (upFrom 0 n)) ⌝ }
+// The entry of action c of state p.
+fn entry(q: &[i64; 512], p: usize, c: usize) -> i64
+    requires { ⌜ (p < 64) × (c < 8) ⌝ }
+    ensures { λ r. ⌜ r ≡ rowOf (now (q .entry)) p c ⌝ }
 {
-    let best = best_action(q, p, n, 0);
-    q[8 * p + best]
+    q[8 * p + c]
 }
 
-// Fills q and v with the table of a checked book.
-pub fn fill_table(b: &[i32], z: Sizes, x: &[usize; 192], q: &mut [i64; 512], v: &mut [i64; 64])
-    requires { ⌜ Indexed (now b) z (now x) × (length (now q) ≡ 512) × (length (now v) ≡ 64) ⌝ }
+// Fills q and v with the table of a checked book, where `off` has the actions that no policy can take. No cost is multiplied or written for those, and
+// v gets no entry for a state that has no other: no sum reads one.
+pub fn fill_table(
+    b: &[i32],
+    z: Sizes,
+    x: &[usize; 192],
+    off: &[u8; 64],
+    q: &mut [i64; 512],
+    v: &mut [i64; 64],
+)
+    requires { ⌜ Indexed (now b) z (now x) × BarredOf (now b) (now off) × (length (now q) ≡ 512) × (length (now v) ≡ 64) ⌝ }
     ensures { λ _. ⌜ TableOf (now (b .entry)) (now (q .exit)) (now (v .exit)) ⌝ }
 {
     let mut p = z.s;
     while 0 < p {
         p = p - 1;
-        fill_row(b, z, x, p, q, v);
+        let mask = off[p];
+        fill_row(b, z, x, p, mask, q, v);
         let n = index::count(b, z, p);
-        let y = least_of_row(q, p, n);
-        v[p] = y;
+        let best = best_action(q, p, n, mask);
+        if best < 8 {
+            let y = entry(q, p, best);
+            v[p] = y;
+        }
     }
 }
 
 // The table of a checked book.
-pub fn make_table(b: &[i32], z: Sizes, x: &[usize; 192]) -> Table
-    requires { ⌜ Indexed (now b) z (now x) ⌝ }
+pub fn make_table(b: &[i32], z: Sizes, x: &[usize; 192], off: &[u8; 64]) -> Table
+    requires { ⌜ Indexed (now b) z (now x) × BarredOf (now b) (now off) ⌝ }
     ensures { λ r. ⌜ TableOf (now (b .entry)) (r .q) (r .v) ⌝ }
 {
     let mut q = zero_rows();
     let mut v = zeros();
-    fill_table(b, z, x, &mut q, &mut v);
+    fill_table(b, z, x, off, &mut q, &mut v);
     Table { q: q, v: v }
 }

@@ -4,24 +4,25 @@ use mathlib.Core.Path.{_≡_, sym, ap, _∙_, subst}
 use mathlib.Core.Logic.{⊎-elim}
 use Prim.Native.Nat.{ℕ, _+_, _-_, _<_, _≤_}
 use native.Mathlib.Omega.{arith}
+use lib.ListN.{getD}
 use Rattle.model.specs.Lists.{upFrom}
-use Rattle.model.specs.Model.{Words, scale, stateCount, togo, action, options}
-use Rattle.model.specs.Recursion.{bestOf, through}
+use Rattle.model.specs.Model.{Words, scale, stateCount, togo, action}
+use Rattle.model.specs.Recursion.{bestOf, through, feasible}
 use Rattle.sets.specs.Sets.{with, free}
-use Rattle.accepted.specs.Options.{option-small, state-alive}
 use Rattle.accepted.specs.Facts.{accepted}
+use Rattle.feasible.specs.Barred.{Leaves}
 use Rattle.table.specs.Table.{rowOf}
-use Rattle.build.specs.Best.{bestAt, secondAt}
-use Rattle.build.proofs.Best.{row-best, row-first, best-option, Found, found-none, found-one, found-two}
+use Rattle.build.specs.Best.{bestAt, secondAt, BarredAt}
+use Rattle.build.proofs.Best.{row-best, row-first, Found, found-none, found-one, found-two}
 use borrow.Author.Needs.{needs}
 use Rattle.build.proofs.best_actions.Statement.{statement}
 use Rattle.build.proofs.best_actions.Tie as tie
 
 abbrev Inv-loop : tie.InvT-loop
-Inv-loop b z q k s best₀ p₀ best p = (stateCount b ≤ 64) × (p ≤ stateCount b) × Found b k p best
+Inv-loop b z q off k s best₀ p₀ best p = (stateCount b ≤ 64) × (p ≤ stateCount b) × Found b k p best
 
 abbrev μ-loop : tie.MeasureT-loop
-μ-loop b z q k s best₀ p₀ best p = s - p
+μ-loop b z q off k s best₀ p₀ best p = s - p
 
 zeros-requires : tie.Need-zeros-requires Inv-loop μ-loop
 zeros-requires c κs = search needs
@@ -37,8 +38,11 @@ count-requires c κs = search needs
 
 -- what is known once the first best action of state p is found
 module _ (c : tie.After-best-action Inv-loop μ-loop) where
+  abbrev n : tie.After-count Inv-loop μ-loop
+  n = c .before .before
+
   abbrev l : tie.At-loop Inv-loop μ-loop
-  l = c .before .before .before
+  l = n .before .before
 
   abbrev s : tie.Start Inv-loop μ-loop
   s = l .before .before
@@ -46,30 +50,26 @@ module _ (c : tie.After-best-action Inv-loop μ-loop) where
   abbrev ws : Words
   ws = s .args .b .now
 
+  abbrev off : ℕ
+  off = getD (s .args .off .now) (l .loop .p) 0
+
   state : l .loop .p < stateCount ws
   state = omega arith
 
+  leaves : Leaves ws (l .loop .p) off
+  leaves = s .pre .2 .leaves (l .loop .p) state
+
   first : c .best-action .result ≡ bestAt ws (l .loop .p)
   first =
-      c .best-action .ensures ∙ ap (λ n. bestOf (rowOf (s .args .q .now) (l .loop .p)) (free 0 (upFrom 0 n))) (c .before .count .ensures)
-      ∙ row-first ws (l .loop .p) (s .args .q .now) (s .pre .1) state
+      c .best-action .ensures ∙ ap (λ n. bestOf (rowOf (s .args .q .now) (l .loop .p)) (free off (upFrom 0 n))) (n .count .ensures)
+      ∙ row-first ws (l .loop .p) off leaves (s .args .q .now) (s .pre .1) state
 
-  small : c .best-action .result < 8
-  small =
-      omega (
-        arith,
-        first,
-        option-small ws (s .pre .0 .ok) (l .loop .p) state
-            (best-option ws (l .loop .p) (state-alive ws (s .pre .0 .ok) (l .loop .p) state)),
-      )
-
-  second : (m : ℕ) → m ≡ with 0 (c .best-action .result)
-      → bestOf (rowOf (s .args .q .now) (l .loop .p)) (free m (upFrom 0 (c .before .count .result))) ≡ secondAt ws (l .loop .p)
-  second m m-is =
-      ap (λ n. bestOf (rowOf (s .args .q .now) (l .loop .p)) (free m (upFrom 0 n))) (c .before .count .ensures)
-      ∙ row-best ws (l .loop .p) (s .args .q .now) (s .pre .1) state m
-      ∙ ap (λ m. bestOf (through (scale ws) (action ws) (options ws) (togo ws (l .loop .p)) (l .loop .p)) (free m (options ws (l .loop .p))))
-      (m-is ∙ ap (with 0) first)
+  second : bestOf (rowOf (s .args .q .now) (l .loop .p)) (free (with 0 (c .best-action .result)) (free off (upFrom 0 (n .count .result))))
+      ≡ secondAt ws (l .loop .p)
+  second =
+      ap (λ n. bestOf (rowOf (s .args .q .now) (l .loop .p)) (free (with 0 (c .best-action .result)) (free off (upFrom 0 n)))) (n .count .ensures)
+      ∙ row-best ws (l .loop .p) off leaves (s .args .q .now) (s .pre .1) state (with 0 (c .best-action .result))
+      ∙ ap (λ d. bestOf (through (scale ws) (action ws) (feasible ws) (togo ws (l .loop .p)) (l .loop .p)) (free (with 0 d) (feasible ws (l .loop .p)))) first
 
 few : (c : tie.After-count Inv-loop μ-loop) → (c .before .before .loop .p < 64) × (c .count .result ≤ 8)
 few c =
@@ -77,8 +77,11 @@ few c =
     let s = l .before .before in
     (omega arith, omega (arith, c .count .ensures, accepted (s .args .b .now) (s .pre .0 .ok) .counts-high (l .loop .p) (omega arith)))
 
+element-copy-out-mask : tie.Need-element-copy-out-mask Inv-loop μ-loop
+element-copy-out-mask c = omega arith
+
 best-action-requires : tie.Need-best-action-requires Inv-loop μ-loop
-best-action-requires c κs = few c
+best-action-requires c κs = few (c .before)
 
 mul-best : tie.Need-mul-best Inv-loop μ-loop
 mul-best c = omega arith
@@ -86,14 +89,8 @@ mul-best c = omega arith
 array-write-best : tie.Need-array-write-best Inv-loop μ-loop
 array-write-best c = omega arith
 
-cast-with8 : tie.Need-cast-with8 Inv-loop μ-loop
-cast-with8 c = omega (arith, small (c .before))
-
-with8-requires : tie.Need-with8-requires Inv-loop μ-loop
-with8-requires c κs = small (c .before)
-
-best-action-requires-2 : tie.Need-best-action-requires-2 Inv-loop μ-loop
-best-action-requires-2 c κs = few (c .before .before .before)
+wide8-requires : tie.Need-wide8-requires Inv-loop μ-loop
+wide8-requires c κs = tt
 
 add-best : tie.Need-add-best Inv-loop μ-loop
 add-best c = omega arith
@@ -104,6 +101,24 @@ mul-best-2 c = omega arith
 array-write-best-2 : tie.Need-array-write-best-2 Inv-loop μ-loop
 array-write-best-2 c = omega arith
 
+second-best-requires : tie.Need-second-best-requires Inv-loop μ-loop
+second-best-requires c κs = let a = c .before .before in let f = few (n a) in (f .0, f .1, a .best-action .ensures)
+
+add-best-2 : tie.Need-add-best-2 Inv-loop μ-loop
+add-best-2 c = omega arith
+
+mul-best-3 : tie.Need-mul-best-3 Inv-loop μ-loop
+mul-best-3 c = omega arith
+
+array-write-best-3 : tie.Need-array-write-best-3 Inv-loop μ-loop
+array-write-best-3 c = omega arith
+
+-- its set as it is written
+barred : (o : tie.After-wide8 Inv-loop μ-loop) → BarredAt (ws (o .before)) (l (o .before) .loop .p) (o .wide8 .result)
+barred o =
+    let a = o .before in
+    record { leaves = subst (Leaves (ws a) (l a .loop .p)) (sym (o .wide8 .ensures .0)) (leaves a); small = o .wide8 .ensures .1 }
+
 add-p : tie.Need-add-p Inv-loop μ-loop
 add-p c = omega arith
 
@@ -112,20 +127,21 @@ loop-less c = omega arith
 
 loop-again : tie.Need-loop-again Inv-loop μ-loop
 loop-again c =
-    let a = c .before in
+    let o = c .before in
+    let a = o .before in
+    let m = o .wide8 .result in
     let p = l a .loop .p in
     let w = ws a in
     let xs = l a .loop .best in
     let one = a .best-action .result in
     let old = l a .loop .inv .2 in (
       l a .loop .inv .0,
-      omega arith,
+      omega (arith, state a),
       ⊎-elim
-          (λ t. subst (Found w (s a .args .k) (p + 1)) (sym (t .3))
-          (found-two w (s a .args .k) p one xs (omega arith) old (first a) (t .2 .result) (t .0 .taken)
-          (t .2 .ensures ∙ second a (t .1 .result) (t .1 .ensures))))
+          (λ t. subst (Found w (s a .args .k) (p + 1)) (sym (t .2))
+          (found-two w (s a .args .k) p one m xs (omega (arith, state a, l a .loop .inv .0)) old (first a) (barred o) (t .1 .result) (t .0 .taken) (t .1 .ensures ∙ second a)))
           (λ t. subst (Found w (s a .args .k) (p + 1)) (sym (t .1))
-          (found-one w (s a .args .k) p one xs (omega arith) old (first a) (λ j. omega (arith, t .0 .left))))
+          (found-one w (s a .args .k) p one m xs (omega (arith, state a, l a .loop .inv .0)) old (first a) (barred o) (λ j. omega (arith, t .0 .left))))
           (c .if1 .came),
     )
 
@@ -145,15 +161,18 @@ best-actions-spec =
     zeros-requires
     loop-holds
     count-requires
+    element-copy-out-mask
     best-action-requires
     mul-best
     array-write-best
-    cast-with8
-    with8-requires
-    best-action-requires-2
+    wide8-requires
     add-best
     mul-best-2
     array-write-best-2
+    second-best-requires
+    add-best-2
+    mul-best-3
+    array-write-best-3
     add-p
     loop-less
     loop-again

@@ -1,15 +1,18 @@
 -- The pass has come to state s.
 -- Assumes nothing.
 use mathlib.Core.Path.{_≡_, sym, _∙_, subst}
+use mathlib.Core.Bool.{true}
 use mathlib.Core.List.{List, _++_}
 use Prim.Native.Nat.{ℕ, _-_, _≤_, _<_}
 use native.Mathlib.Omega.{arith}
 use lib.ListN.{length, take, drop}
 use Rattle.model.specs.Model.{stateCount, action}
 use Rattle.accepted.specs.Facts.{accepted}
-use Rattle.accepted.specs.Options.{Option, state-alive}
+use Rattle.laws.specs.Members.{true-T, isIn-in}
+use Rattle.accepted.specs.Options.{Feasible}
+use Rattle.sets.specs.Sets.{has}
 use Rattle.build.specs.Walk.{chosen, Stepped}
-use Rattle.build.proofs.Split.{chosen-from, chosen-option}
+use Rattle.build.proofs.Split.{chosen-from, chosen-feasible}
 use Rattle.build.proofs.Pass.{Pass, finish, pass-more}
 use Rattle.build.proofs.Prefix.{usable-long, copied, begin-at}
 use Rattle.build.proofs.build.Statement.{statement}
@@ -71,6 +74,13 @@ module _ (c : tie.After-choice Inv-loop μ-loop) where
       c .choice .ensures
       ∙ chosen-from (s l .args .b .now) (s l .args .plan .now) (s l .args .r) (s l .args .c) (l .loop .s) (l .loop .inv .2) (s l .args .best .now) (s l .pre .2) here
 
+  -- a policy goes on from it where it is reached
+  goes : has (l .loop .reach) (l .loop .s) ≡ true → Feasible (s l .args .b .now) (l .loop .s) (choose (s l) (l .loop .s))
+  goes e =
+      let h = l .loop .inv .1 in
+      chosen-feasible (s l .args .b .now) (s l .args .plan .now) (s l .args .r) (s l .args .c) (l .loop .s) (l .loop .inv .2)
+      (h .alive (l .loop .s) (isIn-in (l .loop .s) (h .reach) (true-T (sym (h .set-is .at (l .loop .s)) ∙ e)))) (s l .pre .5)
+
 step-requires : tie.Need-step-requires Inv-loop μ-loop
 step-requires c κs =
     let a = s (l c) in
@@ -78,9 +88,7 @@ step-requires c κs =
       a .pre .0,
       a .pre .1,
       here c,
-      subst (Option (a .args .b .now) p) (sym (is c))
-          (chosen-option (a .args .b .now) (a .args .plan .now) (a .args .r) (a .args .c) p (l c .loop .inv .2)
-          (state-alive (a .args .b .now) (a .pre .0) p (here c)) (a .pre .5)),
+      λ e. subst (Feasible (a .args .b .now) p) (sym (is c)) (goes c e),
     )
 
 slice-write-out : tie.Need-slice-write-out Inv-loop μ-loop
@@ -98,7 +106,7 @@ loop-again c =
     let a = s l in (
       omega (arith, l .loop .inv .1 .long),
       pass-more (a .args .b .now) (choose a) (l .loop .s) (l .loop .reach) (l .loop .out) (l .loop .inv .1) (a .pre .0)
-          (here (c .before)) (c .step .result .byte) (c .step .result .reach)
+          (here (c .before)) (goes (c .before)) (c .step .result .byte) (c .step .result .reach)
           (subst (λ (d : ℕ). Stepped (action (a .args .b .now)) (l .loop .s) d (c .step .result .byte) (l .loop .reach) (c .step .result .reach))
           (is (c .before)) (c .step .ensures)),
       omega arith,

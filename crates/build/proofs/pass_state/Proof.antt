@@ -9,7 +9,7 @@ use Rattle.model.specs.Model.{Words, actionCount, action}
 use Rattle.model.specs.Policy.{Policy, nexts, onward}
 use Rattle.model.specs.Path.{byteAt}
 use Rattle.accepted.specs.Facts.{accepted}
-use Rattle.accepted.specs.Options.{Option, option-below}
+use Rattle.accepted.specs.Options.{Feasible, option-below, to-option}
 use Rattle.accepted.specs.Bytes.{byte-is}
 use Rattle.sets.specs.Sets.{SetOf, set-union}
 use Rattle.build.proofs.Prefix.{passed-more, passed-bare}
@@ -45,9 +45,9 @@ module _ (c : tie.Else1) where
   below : getD (bs s) (s .args .s) 0 < actionCount (ws s) (s .args .s)
   below = go (s .pre .3 .1)
     where
-      go : (byteAt (bs s) (s .args .s) ≡ 255) ⊎ Option (ws s) (s .args .s) (byteAt (bs s) (s .args .s)) → getD (bs s) (s .args .s) 0 < actionCount (ws s) (s .args .s)
+      go : (byteAt (bs s) (s .args .s) ≡ 255) ⊎ Feasible (ws s) (s .args .s) (byteAt (bs s) (s .args .s)) → getD (bs s) (s .args .s) 0 < actionCount (ws s) (s .args .s)
       go (inl e) = absurd (c .if1 .left (there s ∙ e))
-      go (inr o) = subst (λ (a : ℕ). a < actionCount (ws s) (s .args .s)) (sym (there s)) (option-below (ws s) (s .args .s) o)
+      go (inr o) = subst (λ (a : ℕ). a < actionCount (ws s) (s .args .s)) (sym (there s)) (option-below (ws s) (s .args .s) (to-option (ws s) (s .args .s) _ o))
 
   small : (getD (bs s) (s .args .s) 0 < 8) × (s .args .s < 64)
   small = (
@@ -79,7 +79,7 @@ returns-2 c =
     let on : SetOf more (nexts (action (ws s) (s .args .s) (byteAt (bs s) (s .args .s)) .transitions)) =
     subst (λ (a : ℕ). SetOf more (nexts (action (ws s) (s .args .s) a .transitions))) (there s)
     (s .pre .1 .at (s .args .s) (getD (bs s) (s .args .s) 0) (s .pre .2) (below e)) in
-    passed-more (ws s) (bs s) (s .pre .0) (s .args .s) (s .pre .2) (s .args .reach) (s .pre .4) (c .union64 .result)
+    passed-more (ws s) (bs s) (s .pre .0) (s .args .s) (s .pre .2) (s .args .reach) (s .pre .4) (s .pre .3 .1) (c .union64 .result)
     (subst (λ (m : ℕ). SetOf m (onward (action (ws s)) (s .args .s) (byteAt (bs s) (s .args .s)) (h .reach))) (sym (c .union64 .ensures))
     (set-union more (s .args .reach) _ (h .reach) on (h .set-is)))
 

@@ -19,13 +19,13 @@ abbrev μ-loop : tie.MeasureT-loop
 loop-holds : tie.Need-loop-holds Inv-loop μ-loop
 loop-holds c =
     let s = c .before in
-    (omega arith, passed-none (s .args .b .now) (s .args .plan .now) (s .pre .3) 1 first-set)
+    (omega arith, passed-none (s .args .b .now) (s .args .plan .now) (s .pre .3) (s .pre .4) 1 first-set)
 
 pass-state-requires : tie.Need-pass-state-requires Inv-loop μ-loop
 pass-state-requires c κs =
     let l = c .before in
     let s = l .before .before in
-    (s .pre .0, s .pre .1, omega (arith, s .pre .2), s .pre .4 (l .loop .s) (omega arith), l .loop .inv .1)
+    (s .pre .0, s .pre .1, omega (arith, s .pre .2), s .pre .5 (l .loop .s) (omega arith), l .loop .inv .1)
 
 add-s : tie.Need-add-s Inv-loop μ-loop
 add-s c =

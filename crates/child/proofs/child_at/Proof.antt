@@ -29,7 +29,7 @@ en s = entryOf (s .args .e) (s .args .plan .now)
 shared-slice-read-f : tie.Need-shared-slice-read-f
 shared-slice-read-f c =
     let s = c .before .before in
-    in-plan (ws s) (s .pre .0 .ok) (s .args .q .now) (s .pre .1) (en s) (s .pre .3 .right) (s .args .p) (s .pre .5)
+    in-plan (ws s) (s .pre .0 .ok) (s .args .q .now) (s .pre .1) (en s) (s .pre .4 .right) (s .args .p) (s .pre .6)
 
 cast-f : tie.Need-cast-f
 cast-f c = omega (arith, c .shared-slice-known2 .given (c .before .before .args .p) .fits)
@@ -41,18 +41,18 @@ returns : tie.Need-returns
 returns c =
     let s = c .before .before .before .before in
     none-is (ws s) (en s) (s .args .p) _ (c .no-child .ensures)
-    (λ k es. unreached (ws s) (s .pre .0 .ok) (s .args .q .now) (s .pre .1) (en s) (s .pre .3 .right) (s .args .p) (s .pre .4) (s .pre .5) k es
+    (λ k es. unreached (ws s) (s .pre .0 .ok) (s .args .q .now) (s .pre .1) (en s) (s .pre .4 .right) (s .args .p) (s .pre .5) (s .pre .6) k es
     (c .before .if1 .taken))
 
 mask-at-requires : tie.Need-mask-at-requires
 mask-at-requires c κs =
     let s = c .before .before .before in
-    small (ws s) (s .pre .0 .ok) (s .args .q .now) (s .pre .1) (en s) (s .pre .3 .right) (s .args .p) (s .pre .4) (s .pre .5) 0 [] (c .if1 .left)
+    small (ws s) (s .pre .0 .ok) (s .args .q .now) (s .pre .1) (en s) (s .pre .4 .right) (s .args .p) (s .pre .5) (s .pre .6) 0 [] (c .if1 .left)
 
 next-action-requires : tie.Need-next-action-requires
 next-action-requires c κs =
     let s = c .before .before .before .before in
-    (s .pre .0, s .pre .5)
+    (s .pre .0, s .pre .2, s .pre .6)
 
 no-child-requires-2 : tie.Need-no-child-requires-2
 no-child-requires-2 c κs = tt
@@ -62,8 +62,8 @@ returns-2 c =
     let t = c .before in
     let s = t .before .before .before .before .before .before in
     none-is (ws s) (en s) (s .args .p) _ (c .no-child2 .ensures)
-    (λ k es. none (ws s) (s .pre .0 .ok) (s .args .q .now) (s .pre .1) (en s) (s .pre .3 .right) (s .args .p) (s .pre .4) (s .pre .5) k es
-    (t .before .before .before .if1 .left) (s .args .best .now) (s .pre .2) _ _ (t .before .before .mask-at .ensures) (t .before .next-action .ensures) (t .if2 .taken))
+    (λ k es. none (ws s) (s .pre .0 .ok) (s .args .q .now) (s .pre .1) (en s) (s .pre .4 .right) (s .args .p) (s .pre .5) (s .pre .6) k es
+    (t .before .before .before .if1 .left) (s .args .best .now) (s .pre .2) (s .pre .3) _ _ (t .before .before .mask-at .ensures) (t .before .next-action .ensures) (t .if2 .taken))
 
 -- where an action is left
 module _ (c : tie.Else2) where
@@ -72,19 +72,19 @@ module _ (c : tie.Else2) where
 
   child : ChildAt (ws s) (en s) (s .args .p) (c .before .next-action .result) (c .before .before .mask-at .result)
   child =
-      child-at (ws s) (s .pre .0 .ok) (s .args .q .now) (s .pre .1) (en s) (s .pre .3 .right) (s .args .p) (s .pre .4) (s .pre .5) 0 []
-      (c .before .before .before .if1 .left) (s .args .best .now) (s .pre .2) _ _ (c .before .before .mask-at .ensures) (c .before .next-action .ensures) (c .if2 .left)
+      child-at (ws s) (s .pre .0 .ok) (s .args .q .now) (s .pre .1) (en s) (s .pre .4 .right) (s .args .p) (s .pre .5) (s .pre .6) 0 []
+      (c .before .before .before .if1 .left) (s .args .best .now) (s .pre .2) (s .pre .3) _ _ (c .before .before .mask-at .ensures) (c .before .next-action .ensures) (c .if2 .left)
 
   known : Facts (ws s) (s .args .q .now) (en s) (s .args .w .now) (s .args .p) (c .before .next-action .result)
       (getD (s .args .plan .now) (s .args .p) 0)
   known =
-      facts (ws s) (s .pre .0 .ok) (s .args .q .now) (s .pre .1) (en s) (s .pre .3 .right) (s .args .w .now)
-      (s .pre .3 .weights) (s .args .p) (c .before .next-action .result) (c .before .before .mask-at .result) child
+      facts (ws s) (s .pre .0 .ok) (s .args .q .now) (s .pre .1) (en s) (s .pre .4 .right) (s .args .w .now)
+      (s .pre .4 .weights) (s .args .p) (c .before .next-action .result) (c .before .before .mask-at .result) child
 
   joins : (k : ℕ) (es : List Entry) → joined k (childEntry (ws s) (en s) (s .args .p)) es ≡ admitted (ws s) k (en s) (s .args .p) es
   joins k es =
-      one (ws s) (s .pre .0 .ok) (s .args .q .now) (s .pre .1) (en s) (s .pre .3 .right) (s .args .p) (s .pre .4) (s .pre .5) k es
-      (c .before .before .before .if1 .left) (s .args .best .now) (s .pre .2) _ _ (c .before .before .mask-at .ensures) (c .before .next-action .ensures) (c .if2 .left)
+      one (ws s) (s .pre .0 .ok) (s .args .q .now) (s .pre .1) (en s) (s .pre .4 .right) (s .args .p) (s .pre .5) (s .pre .6) k es
+      (c .before .before .before .if1 .left) (s .args .best .now) (s .pre .2) (s .pre .3) _ _ (c .before .before .mask-at .ensures) (c .before .next-action .ensures) (c .if2 .left)
 
   -- the cost that is passed on is the child's
   money : (r : ℤ)
@@ -112,7 +112,7 @@ returns-3 c =
           (getD (t .args .plan .now) (t .args .p) 0) (known d)
           (money d _ (c .child-cost .ensures)) (child d .mask-is))
           ∙ joins d k es;
-      option = inr (known d .c-option);
+      goes-on = inr (known d .c-feasible);
     }
 
 pub child-at-spec : {M : Type 1} → statement M

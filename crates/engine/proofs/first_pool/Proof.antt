@@ -7,8 +7,8 @@ use native.Mathlib.Omega.{arith}
 use lib.ListN.{getD}
 use Rattle.model.specs.Model.{Words, stateCount}
 use Rattle.accepted.specs.Facts.{accepted}
-use Rattle.accepted.specs.Options.{Option, state-alive}
-use Rattle.accepted.specs.Shape.{shape}
+use Rattle.accepted.specs.Options.{Feasible}
+use Rattle.accepted.specs.Shape.{shape, alive-has}
 use Rattle.accepted.specs.Demands.{bestPolicy}
 use Rattle.costs.proofs.Sums.{read64}
 use Rattle.build.proofs.Pass.{first-set}
@@ -49,15 +49,15 @@ row-of-requires c κs =
       h .2,
       (λ i l. absurd (omega arith)),
       shape (ws s) (h .0 .ok) .some-state,
-      subst (Option (ws s) 0) (sym (best-first s)) (best-option (ws s) 0 (state-alive (ws s) (h .0 .ok) 0 (shape (ws s) (h .0 .ok) .some-state))),
-      walked-none (ws s) (c .before .zeros .result) 1 first-set,
+      subst (Feasible (ws s) 0) (sym (best-first s)) (best-option (ws s) 0 (h .3)),
+      walked-none (ws s) (c .before .zeros .result) (h .3) 1 first-set,
     )
 
 single-requires : tie.Need-single-requires
 single-requires c κs =
     let r = c .before in
     let s = r .before .before .before .before in
-    (s .pre .4, s .pre .5, few s, r .row-of .ensures .long)
+    (s .pre .5, s .pre .6, few s, r .row-of .ensures .long)
 
 returns : tie.Need-returns
 returns c =
@@ -71,8 +71,8 @@ returns c =
       i .0,
       i .1,
       first-alone (c .single .result) (stateCount (ws s)) (firstCandidate (ws s)) (s .pre .0 .sizes .s-is)
-          (read64 (s .args .cost) (s .fits .cost .sfits) ∙ s .pre .3)
-          (row-take (s .args .z .s) best (best-long (ws s) (s .pre .0 .ok) ∙ sym (s .pre .0 .sizes .s-is))) (i .2),
+          (read64 (s .args .cost) (s .fits .cost .sfits) ∙ s .pre .4)
+          (row-take (s .args .z .s) best (best-long (ws s) (s .pre .0 .ok) (alive-has (ws s) (s .pre .0 .ok) (s .pre .3)) ∙ sym (s .pre .0 .sizes .s-is))) (i .2),
     )
 
 pub first-pool-spec : {M : Type 1} → statement M

@@ -12,7 +12,7 @@ use mir.Val.{toZ, ofZ}
 use Rattle.model.specs.Model.{Words, stateCount}
 use Rattle.accepted.specs.Facts.{accepted}
 use Rattle.index.specs.Index.{Checked}
-use Rattle.accepted.specs.Options.{Option}
+use Rattle.accepted.specs.Options.{Feasible}
 use Rattle.costs.proofs.Sums.{read64}
 use Rattle.stored.specs.Entry.{Entry}
 use Rattle.stored.specs.Children.{Right, plan-model}
@@ -94,7 +94,7 @@ reached-before-requires c κs =
     let g = s v in
     let r = known g in
     let state = right v .split-state in
-    (r .ok, g .pre .0 .next, omega (arith, state), own-walk (ws g) (r .ok) (en v) (right v), usable (ws g) (r .ok) (en v) (right v) (en v .split) state)
+    (r .ok, g .pre .0 .next, omega (arith, state), right v .lists .first-alive, own-walk (ws g) (r .ok) (en v) (right v), usable (ws g) (r .ok) (en v) (right v) (en v .split) state)
 
 loop-holds : tie.Need-loop-holds Inv-loop μ-loop
 loop-holds c =
@@ -133,6 +133,7 @@ child-at-requires c κs =
     let h = st t .pre .0 in (
       h .indexed .checked,
       h .rows,
+      h .firsts,
       st t .pre .2,
       record { right = right (v t); weights = t .before .before .before .reach-weights .ensures },
       t .before .loop .inv .0 .from,
@@ -192,8 +193,8 @@ module _ (c : tie.Then1 Inv-loop μ-loop) where
   some : d m .action ≡ 255 → ⊥
   some = some-child (ws (S m)) (S m .args .plan .now) (p (turn m)) (d m) (pool (turn m)) (may m ∙ c .if1 .taken)
 
-  option : Option (ws (S m)) (p (turn m)) (d m .action)
-  option = ⊎-elim (λ e. absurd (some e)) (λ o. o) (child m .child-at .ensures .option)
+  goes-on : Feasible (ws (S m)) (p (turn m)) (d m .action)
+  goes-on = ⊎-elim (λ e. absurd (some e)) (λ o. o) (child m .child-at .ensures .goes-on)
 
 row-of-requires : tie.Need-row-of-requires Inv-loop μ-loop
 row-of-requires c κs =
@@ -204,7 +205,7 @@ row-of-requires c κs =
       h .firsts,
       usable (ws (st t)) (known (st t) .ok) (en (v t)) (right (v t)) (p t) (state t),
       state t,
-      option c,
+      goes-on c,
       t .before .loop .inv .1 .walked,
     )
 

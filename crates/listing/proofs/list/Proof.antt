@@ -71,6 +71,7 @@ list-requires c κs =
     let s = d .before .before .before in
     let a = s .pre in (
       a .ok,
+      a .has,
       a .low,
       a .high,
       omega (arith, a .high, d .before .no-costs .ensures),

@@ -38,7 +38,7 @@ returns c =
 list-requires : tie.Need-list-requires
 list-requires c κs =
     let p = allowed _ _ (good (c .before .before)) in
-    (p .0 .ok, p .0 .low, p .0 .high, p .1, p .2)
+    (p .0 .ok, p .0 .has, p .0 .low, p .0 .high, p .1, p .2)
 
 same-length : tie.Need-same-length
 same-length c = search needs
