@@ -1,4 +1,4 @@
--- Books within the limit of request 2.3, question 9 with other limits of r, and the rules before that request: the same calls with r at most 16.
+-- Books within the limit of request 2.3, question 9 with other limits of r, and the rules before that request: today's, with r at most 16.
 -- No contract cites these definitions.
 -- Assumes nothing.
 use Prim.Native.Nat.{ℕ, _≤_, _<_}
@@ -12,7 +12,7 @@ use Rattle.model.specs.Model.{Words, horizon, lineCount, stateCount, stage, act
 use Rattle.model.specs.Questions.{Question, firstNo, andThen, inside, fewestBranches, mostBranches, everyAction, bookQuestions}
 use Rattle.model.specs.Policy.{Policy}
 use Rattle.model.specs.Order.{ranking, rankingCosts}
-use Rattle.model.specs.Record.{recordBytes, carriedK, carriedBook, countQuestions, headQuestions, tailQuestions}
+use Rattle.model.specs.Record.{recordBytes, carriedK, carriedBook, countQuestions, planQuestions, headQuestions, tailQuestions}
 use Rattle.model.specs.Calls.{ifAccepted, over, roomOf, roomQuestions, writeQuestions}
 
 -- "no choice has more than 6 lines below its first": no action before stage H, reached or not, has more transitions than the limit
@@ -47,7 +47,7 @@ unfoldable pub formerNumber : Words → ℕ
 formerNumber ws = firstNo (map formerQuestion bookQuestions) ws
 
 unfoldable pub formerAsked : Words → ℕ → ℕ
-formerAsked ws k = andThen (formerNumber ws) (firstNo countQuestions k)
+formerAsked ws k = andThen (formerNumber ws) (andThen (firstNo countQuestions k) (firstNo planQuestions ws))
 
 -- ranking: its number, and the two lent slices afterwards
 unfoldable pub formerRankNumber : Words → ℕ → List ℤ → List ℕ → ℕ

@@ -1,6 +1,7 @@
 -- What request 2.5 promises of a conversion, in its reader's words. Each law quotes the sentence that it renders.
 -- Assumes nothing.
 use mathlib.Core.Path.{_≡_, refl, sym, ap, ap₂, _∙_}
+use mathlib.Core.Bool.{true}
 use mathlib.Core.Logic.{_↔_}
 use mathlib.Core.List.{List, [], _∷_, map}
 use Prim.Native.Nat.{ℕ, suc, _+_, _*_, _^_, _≤_, _<_}
@@ -11,20 +12,24 @@ use lib.IntN.{ℤ, negℤ}
 use lib.Signed.{_<ℤ_}
 use lib.ListN.{length}
 use Rattle.model.specs.Model.{Words, scale, horizon, stageSize, stateCount, actionCount, action}
-use Rattle.model.specs.Questions.{bookNumber}
-use Rattle.model.specs.Policy.{Policy, isPolicy}
+use Rattle.model.specs.Questions.{firstNo, bookNumber}
+use Rattle.model.specs.Policy.{Policy, isPolicy, hasPolicy}
 use Rattle.model.specs.Path.{totalCost, totalWeight, paths, policyCost}
+use Rattle.model.specs.Record.{countQuestions, askedNumber}
 use Rattle.model.specs.Calls.{over}
 use Rattle.laws.specs.Int.{ints, lt-in}
-use Rattle.questions.specs.FirstNo.{passed}
+use Rattle.questions.specs.FirstNo.{passed, then-yes}
 use Rattle.questions.specs.Answers.{gives}
 use Rattle.accepted.specs.Demands.{weights-add}
 use Rattle.reward_table.specs.Table.{tableScale, tableHorizon, tableStates, tableCount}
 use Rattle.reward_table.specs.Days.{TableDay, dayWeight, tableDays, isTablePolicy, expectedReward}
 use Rattle.reward_table.specs.Convert.{tableBook, sliceQuestions, convertNumber, convertLength, convertSlice}
+use Rattle.open_books.specs.Open.{open-policy}
+use Rattle.open_books.specs.Former.{formerNumber, formerAsked}
+use Rattle.open_books.specs.Same.{unchanged}
 use Rattle.conversion.specs.Given.{converted, asked-last}
 use Rattle.conversion.specs.Sizes.{Stands, stateAt, bookAction, closingAction, scale-same, horizon-same, size-first, size-later, states-same}
-use Rattle.conversion.specs.Sizes.{count-before, count-closing, action-before, action-closing}
+use Rattle.conversion.specs.Sizes.{count-before, count-closing, action-before, action-closing, all-open}
 use Rattle.conversion.specs.Days.{asPath, days-same, day-weight, neg-parts, total-cost}
 use Rattle.conversion.specs.Policies.{policies-same}
 
@@ -78,6 +83,17 @@ module _ (t : Words) (room : ℕ) (ok : convertNumber t room ≡ 0) where
   -- "every plan of an accepted conversion": the policies of the book are those of the table
   pub policies-are : (bs : Policy) → isPolicy (tableBook t) bs ≡ isTablePolicy t bs
   policies-are = policies-same t (converted t room ok)
+
+  -- and there is one: no reward gives the mark, so no choice is closed and the book never gets 28
+  pub some-plan : hasPolicy (tableBook t) ≡ true
+  some-plan = open-policy (tableBook t) book-passes (all-open t (converted t room ok))
+
+  -- so it can be ranked, written and accepted: of what those ask, 14 alone is left
+  pub asked-is : (k : ℕ) → askedNumber (tableBook t) k ≡ firstNo countQuestions k
+  unfolding formerAsked
+  asked-is k =
+      let u = unchanged (tableBook t) (all-open t (converted t room ok)) in
+      sym (u .asked k) ∙ then-yes (formerNumber (tableBook t)) (firstNo countQuestions k) (u .number ∙ book-passes)
 
   module _ (bs : Policy) (is : T (isPolicy (tableBook t) bs)) where
     -- its paths are the days of the table, and no other

@@ -11,7 +11,7 @@ use borrow.Author.Tests.{eq-eqb, ne-eqb}
 use lib.Dec.{T, eqb, eqb→eq}
 use lib.ListN.{length}
 use Rattle.model.specs.Lists.{all, upFrom, isIn, forEach}
-use Rattle.model.specs.Model.{Words, Transition, Action, stateCount, stage, togo, action, options}
+use Rattle.model.specs.Model.{Words, Transition, Action, stateCount, stage, togo, actionCount, action, options}
 use Rattle.model.specs.Policy.{Policy, nexts, allowed, onward, isPolicy}
 use Rattle.model.specs.Path.{byteAt}
 use Rattle.laws.specs.Members.{T-true, true-T, and-T, T-and, In, in-one, in-++, ++-in, in-forEach, forEach-in, in-map, map-in, isIn-in, in-isIn}
@@ -26,9 +26,10 @@ use Rattle.accepted.specs.Demands.{reached, start-reached}
 use Rattle.reward_table.specs.Table.{tableHorizon, tableStates, tableFirst, tableCount}
 use Rattle.reward_table.specs.Days.{outcomes, choiceAt, reachedAt, choices, choiceAllowed, isTablePolicy}
 use Rattle.reward_table.specs.Convert.{tableBook}
+use Rattle.open_books.specs.Open.{options-all}
 use Rattle.conversion.specs.Given.{Converted}
 use Rattle.conversion.specs.Sizes.{Stands, stateAt, first-stands, placed, placed-in, horizon-same, states-same, stage-same, place-inside}
-use Rattle.conversion.specs.Sizes.{place-at, count-before, count-closing, action-before}
+use Rattle.conversion.specs.Sizes.{place-at, count-before, count-closing, action-before, all-open}
 use Rattle.conversion.specs.Days.{next-stands}
 
 -- the byte of stage k and state s is one of those that the table allows there
@@ -77,10 +78,11 @@ module _ (act : ℕ → ℕ → Action) (f : ℕ → ℕ) where
 
 module _ (t : Words) (g : Converted t) where
   options-same : (k s : ℕ) → Stands t k s → options (tableBook t) (stateAt t k s) ≡ choices t k s
-  unfolding options choices
-  options-same k s v = go (eq-or-lt-of-le (v .stage-inside))
+  unfolding choices
+  options-same k s v =
+      options-all (tableBook t) (all-open t g) (stateAt t k s) (place-inside t g k s v) ∙ go (eq-or-lt-of-le (v .stage-inside))
     where
-      go : (k ≡ tableHorizon t) ⊎ (k < tableHorizon t) → options (tableBook t) (stateAt t k s) ≡ choices t k s
+      go : (k ≡ tableHorizon t) ⊎ (k < tableHorizon t) → upFrom 0 (actionCount (tableBook t) (stateAt t k s)) ≡ choices t k s
       go (inl e) = rw (eq-eqb k (tableHorizon t) e, count-closing t g k s v e)
       go (inr l) = rw (ne-eqb k (tableHorizon t) (λ e. omega arith), count-before t g k s v l)
 

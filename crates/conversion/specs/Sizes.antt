@@ -2,26 +2,30 @@
 -- the table at the place of k and s.
 -- Assumes nothing.
 use mathlib.Core.Path.{_≡_, refl, sym, ap, ap₂, _∙_}
+use mathlib.Core.Bool.{false}
 use mathlib.Core.Logic.{_⊎_, inl, inr}
 use mathlib.Core.List.{List, [], _∷_, map, map-map}
 use Prim.Native.Nat.{ℕ, zero, suc, _+_, _*_, _-_, _≤_, _<_}
 use native.Mathlib.Nat.{eq-or-lt-of-le, zero-add}
 use native.Mathlib.Numerals.{add-one}
 use native.Mathlib.Omega.{arith}
-use lib.IntN.{ℤ, negℤ}
+use borrow.Author.Tests.{ne-eqb}
+use lib.IntN.{ℤ, pos, negsuc, natAbs, negℤ}
 use lib.ListN.{length, getD, replicate, length-append, length-map, length-replicate, getD-replicate, List·getD-append}
 use lib.Seq.{getD-at}
 use Rattle.model.specs.Lists.{upFrom}
 use Rattle.model.specs.Model.{Words, Transition, Action, scale, horizon, stageSize, firstState, stateCount, stage, actionCount, action}
+use Rattle.model.specs.Model.{closedMark, closed}
 use Rattle.model.specs.Policy.{nexts}
 use Rattle.laws.specs.Members.{In, map-in}
-use Rattle.questions.specs.Stages.{OfStage, stage-is, first-mono, first-zero}
+use Rattle.questions.specs.Stages.{OfStage, stage-is, of-stage, first-mono, first-zero}
 use Rattle.content.specs.Content.{Entry, states}
 use Rattle.laws.specs.Joined.{mapped-long, mapped-at}
 use Rattle.content.specs.Reading.{noEntry, entryAt, entryAction, scale-is, horizon-is, stage-size, state-at, states-are, count-is, action-read}
 use Rattle.reward_table.specs.Table.{tableScale, tableHorizon, tableStates, tableFirst, tableCount, tableEntry, tableState, closingReward}
 use Rattle.reward_table.specs.Days.{outcome, outcomes, place}
 use Rattle.reward_table.specs.Convert.{negated, bookState, bookClosing, laterStage, lastStage, bookContent, tableBook}
+use Rattle.open_books.specs.Open.{AllOpen}
 use Rattle.conversion.specs.Given.{Converted}
 
 -- stage k of the book has state s of the table: "the first state alone at stage 0 and all n at each later stage"
@@ -264,3 +268,25 @@ module _ (t : Words) (g : Converted t) where
   action-closing k s v e =
       action-at k s 0 v (rw (count-closing k s v e) (omega arith))
       ∙ ap (λ (es : List Entry). entryAction (firstState (tableBook t) (k + 1)) (getD es 0 noEntry)) (state-closing k s v e)
+
+  -- no action is closed: minus a reward within 100,000 is not the mark
+  small-open : (z : ℤ) → natAbs z ≤ 100000 → closed (negℤ z) ≡ false
+  small-open (pos zero) h = refl
+  small-open (pos (suc n)) h = refl
+  small-open (negsuc n) h = ne-eqb (suc n) closedMark (λ e. omega arith)
+
+  pub all-open : AllOpen (tableBook t)
+  all-open p c l k =
+      let h = place-at p (stage (tableBook t) p) (of-stage (tableBook t) p l) in
+      rw (h .2) (at (stage (tableBook t) p) (h .0) (h .1) (rw (h .2) at k))
+    where
+      at : (k s : ℕ) → Stands t k s → c < actionCount (tableBook t) (stateAt t k s) → closed (action (tableBook t) (stateAt t k s) c .cost) ≡ false
+      at k s v b = go (eq-or-lt-of-le (v .stage-inside))
+        where
+          go : (k ≡ tableHorizon t) ⊎ (k < tableHorizon t) → closed (action (tableBook t) (stateAt t k s) c .cost) ≡ false
+          go (inl e) =
+              let z : c ≡ 0 = omega (arith, count-closing k s v e) in
+              rw (z, action-closing k s v e) (small-open (closingReward t s) (g .closings s (v .state-inside)))
+          go (inr e) =
+              let d : c < tableCount t s = rw (count-before k s v e) at b in
+              rw (action-before k s c v e d) (small-open (tableEntry t s c .amount) (g .rewards s c (v .state-inside) d))

@@ -38,5 +38,5 @@ pub filed-page : (input : List ℕ) → inputNumber input ≡ 0 → recordPage (
 unfolding recordPage filed page
 filed-page input e =
     let a = asked-says (inputBook input) (inputCount input) (passes input e) in
-    let w = written-accepted (inputBook input) (a .ok) (book-small input) (inputCount input) (a .low) (a .high) in
+    let w = written-accepted (inputBook input) (a .ok) (book-small input) (inputCount input) (a .low) (a .high) (a .has) in
     rw (e, w .number) (ap₂ listPage (w .book) (w .asked))

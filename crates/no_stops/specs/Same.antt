@@ -17,7 +17,7 @@ use Rattle.model.specs.Model.{Words, Transition, Action, weightsOf, scale, hori
 use Rattle.model.specs.Model.{branches, actionLine, action, options}
 use Rattle.model.specs.Questions.{firstNo, inside, fewestBranches, mostBranches, branchesAllowed, linesAllowed, weightSum, weightsAllowed}
 use Rattle.model.specs.Questions.{sizeQuestions, actionQuestions, bookNumber}
-use Rattle.model.specs.Policy.{Policy, isPolicy, policies}
+use Rattle.model.specs.Policy.{Policy, isPolicy, policies, hasPolicy}
 use Rattle.model.specs.Path.{Path, totalCost, pathsFrom, stopsAfter, byteAt, taken, paths, policyCost}
 use Rattle.model.specs.Order.{lower, before, comesBefore, ranking, rankingCosts}
 use Rattle.model.specs.Record.{listBytes, recordBytes, acceptNumber}
@@ -198,9 +198,9 @@ module _ (ws : Words) (ok : bookNumber ws ≡ 0) (full : NoStops ws) where
     unfolding recordBytes listBytes baseRecord
     record-same = rw (list-same, costs-same)
 
--- a record that was written by the rules of document 01, for a book within the limit, is accepted
+-- a record that was written by the rules of document 01, for a book with a policy that is within the limit, is accepted
 pub still-accepted : (ws : Words) → baseNumber ws ≡ 0 → WithinLimit ws → Every (λ z. mag z < 2 ^ 31) ws → (k : ℕ) → 1 ≤ k → k ≤ 64
-    → acceptNumber (baseRecord ws k) ≡ 0
-still-accepted ws base few words k low high =
+    → hasPolicy ws ≡ true → acceptNumber (baseRecord ws k) ≡ 0
+still-accepted ws base few words k low high has =
     let h = base-accepts ws .0 (base, few) in
-    ap acceptNumber (sym (record-same ws (h .0) (h .1) k)) ∙ written-accepted ws (h .0) words k low high .number
+    ap acceptNumber (sym (record-same ws (h .0) (h .1) k)) ∙ written-accepted ws (h .0) words k low high has .number

@@ -1,20 +1,29 @@
--- Demand 2 ("record bytes") in both directions, and that what is written is accepted.
+-- Demand 2 ("record bytes") in both directions, that what is written is accepted, and that no record of a book without a policy is written or
+-- accepted (28).
 -- Assumes nothing.
-use mathlib.Core.Path.{_≡_, sym, ap, ap₂, _∙_}
+use mathlib.Core.Path.{_≡_, refl, sym, ap, ap₂, _∙_}
+use mathlib.Core.Bool.{true}
 use mathlib.Core.Logic.{_↔_}
 use mathlib.Core.List.{List, _++_}
-use Prim.Native.Nat.{ℕ, _+_, _*_, _^_, _≤_, _<_}
+use Prim.Native.Nat.{ℕ, zero, suc, _+_, _*_, _^_, _≤_, _<_}
 use native.Mathlib.Omega.{arith}
+use lib.Dec.{T}
 use lib.Signed.{mag}
 use lib.ListN.{length, drop, take-append-drop}
 use lib.Seq.{drop-at}
 use Rattle.model.specs.Model.{Words, stateCount}
-use Rattle.model.specs.Questions.{bookNumber}
+use Rattle.model.specs.Questions.{firstNo, andThen, bookNumber}
+use Rattle.model.specs.Policy.{Policy, isPolicy, hasPolicy}
 use Rattle.model.specs.Order.{ranking}
-use Rattle.model.specs.Record.{listBytes, recordBytes, carriedLength, carriedK, carriedCount, carriedBook, acceptNumber}
+use Rattle.model.specs.Record.{listBytes, recordBytes, carriedLength, carriedK, carriedCount, carriedBook}
+use Rattle.model.specs.Record.{headQuestions, tailQuestions, askedNumber, acceptNumber}
+use Rattle.model.specs.Calls.{ifAccepted, over, writeNumber, writeRecord}
 use Rattle.laws.specs.Members.{Every}
+use Rattle.questions.specs.FirstNo.{then-yes, then-zero}
+use Rattle.accepted.specs.Demands.{some-policy}
+use Rattle.asked.specs.Asked.{asked-says, asked-28}
 use Rattle.record.specs.Lengths.{headBytes, head-length, record-is, record-length, book-length, count-most, count-some}
-use Rattle.record.specs.Passed.{AcceptedRecord, accept-says, accept-passed}
+use Rattle.record.specs.Passed.{AcceptedRecord, tail-most, accept-says, accept-passed}
 use Rattle.record.specs.Carried.{k-back, count-written, book-back, book-length-is, head-again}
 
 -- an accepted record is the one written for what it carries
@@ -28,7 +37,7 @@ accepted-written bs b a =
 
 -- the record written for what it carries is accepted, whatever its bytes are
 module _ (bs : List ℕ) (ok : bookNumber (carriedBook bs) ≡ 0) (low : 1 ≤ carriedK bs) (high : carriedK bs ≤ 64)
-    (e : bs ≡ recordBytes (carriedBook bs) (carriedK bs)) where
+    (has : hasPolicy (carriedBook bs) ≡ true) (e : bs ≡ recordBytes (carriedBook bs) (carriedK bs)) where
   abbrev ws : Words
   ws = carriedBook bs
 
@@ -57,23 +66,47 @@ module _ (bs : List ℕ) (ok : bookNumber (carriedBook bs) ≡ 0) (low : 1 ≤ c
   written-passes =
       record {
         head = record { long = omega (arith, long); words = omega (arith, book-length ws ok, book-length-is bs); follow = omega (arith, long) };
-        asked = record { ok = ok; low = low; high = high };
+        asked = record { ok = ok; low = low; high = high; has = has };
         sized = record {
-          some = omega (arith, count, count-some ws k ok low);
+          some = omega (arith, count, count-some ws k ok has low);
           most = omega (arith, count, count-most ws k ok);
           exact = long ∙ ap (λ (m : ℕ). 12 + 4 * carriedLength bs + 8 * m + m * stateCount ws) (sym count);
         };
         ranked = record { count = count; list = list };
       }
 
--- A record is accepted exactly if its bytes are those written for the book and count it carries.
+-- A record is accepted exactly if its bytes are those written for the book and count it carries; no record is written for a book without a policy.
 pub accepted-exactly : (bs : List ℕ) → Every (λ b. b < 256) bs
     → (acceptNumber bs ≡ 0)
-    ↔ ((bookNumber (carriedBook bs) ≡ 0) × (1 ≤ carriedK bs) × (carriedK bs ≤ 64) × (bs ≡ recordBytes (carriedBook bs) (carriedK bs)))
+    ↔ ((bookNumber (carriedBook bs) ≡ 0) × (1 ≤ carriedK bs) × (carriedK bs ≤ 64) × (hasPolicy (carriedBook bs) ≡ true)
+    × (bs ≡ recordBytes (carriedBook bs) (carriedK bs)))
 accepted-exactly bs b = (
-  λ z. let a = accept-says bs z in (a .asked .ok, a .asked .low, a .asked .high, accepted-written bs b a),
-  λ w. accept-passed bs (written-passes bs (w .0) (w .1) (w .2) (w .3)),
+  λ z. let a = accept-says bs z in (a .asked .ok, a .asked .low, a .asked .high, a .asked .has, accepted-written bs b a),
+  λ w. accept-passed bs (written-passes bs (w .0) (w .1) (w .2) (w .3) (w .4)),
 )
+
+-- a record is never accepted for a book without a policy
+pub accepted-policy : (bs : List ℕ) → acceptNumber bs ≡ 0 → (p : Policy) × T (isPolicy (carriedBook bs) p)
+accepted-policy bs z = let a = accept-says bs z in some-policy (carriedBook bs) (a .asked .ok) .0 (a .asked .has)
+
+-- 28: "earlier questions passed, exactly if the book has no plan", whatever 20 and 21 would say
+pub accept-28 : (bs : List ℕ) → firstNo headQuestions bs ≡ 0 → bookNumber (carriedBook bs) ≡ 0 → 1 ≤ carriedK bs → carriedK bs ≤ 64
+    → (acceptNumber bs ≡ 28) ↔ ((p : Policy) → T (isPolicy (carriedBook bs) p) → ⊥)
+unfolding acceptNumber
+accept-28 bs head ok low high = (
+  λ e. asked-28 ws k ok low high .0 (first (askedNumber ws k) (sym (then-yes (firstNo headQuestions bs) _ head) ∙ e)),
+  λ none. then-yes (firstNo headQuestions bs) _ head ∙ ap (λ (n : ℕ). andThen n (firstNo tailQuestions bs)) (asked-28 ws k ok low high .1 none),
+)
+  where
+    ws : Words
+    ws = carriedBook bs
+
+    k : ℕ
+    k = carriedK bs
+
+    first : (n : ℕ) → andThen n (firstNo tailQuestions bs) ≡ 28 → n ≡ 28
+    first zero e = absurd (omega (arith, tail-most bs))
+    first (suc n) e = e
 
 -- what is written is accepted, and carries what it was written for
 pub record WrittenAccepted (ws : Words) (k : ℕ) : Type 0 where
@@ -82,8 +115,9 @@ pub record WrittenAccepted (ws : Words) (k : ℕ) : Type 0 where
   pub asked : carriedK (recordBytes ws k) ≡ k
   pub count : carriedCount (recordBytes ws k) ≡ length (ranking ws k)
 
-pub written-accepted : (ws : Words) → bookNumber ws ≡ 0 → Every (λ z. mag z < 2 ^ 31) ws → (k : ℕ) → 1 ≤ k → k ≤ 64 → WrittenAccepted ws k
-written-accepted ws ok words k low high =
+pub written-accepted : (ws : Words) → bookNumber ws ≡ 0 → Every (λ z. mag z < 2 ^ 31) ws → (k : ℕ) → 1 ≤ k → k ≤ 64 → hasPolicy ws ≡ true
+    → WrittenAccepted ws k
+written-accepted ws ok words k low high has =
     record { number = number; book = book; asked = asked; count = count-written ws ok k high }
   where
     n : ℕ
@@ -102,4 +136,16 @@ written-accepted ws ok words k low high =
     number =
         accept-passed (recordBytes ws k)
         (written-passes (recordBytes ws k) (ap bookNumber book ∙ ok) (omega (arith, asked)) (omega (arith, asked))
-        (sym (ap₂ recordBytes book asked)))
+        (ap hasPolicy book ∙ has) (sym (ap₂ recordBytes book asked)))
+
+-- "No record is written for a book without a plan": a lent slice is as it was
+pub unwritten : (ws : Words) → ((p : Policy) → T (isPolicy ws p) → ⊥) → (k : ℕ) (slice : List ℕ) → writeRecord ws k slice ≡ slice
+unfolding writeRecord writeNumber
+unwritten ws none k slice = go (writeNumber ws k (length slice)) refl
+  where
+    go : (n : ℕ) → writeNumber ws k (length slice) ≡ n → ifAccepted n (over (recordBytes ws k) slice) slice ≡ slice
+    go zero e =
+        let a = asked-says ws k (then-zero (askedNumber ws k) _ e .0) in
+        let p = some-policy ws (a .ok) .0 (a .has) in
+        absurd (none (p .0) (p .1))
+    go (suc n) e = refl

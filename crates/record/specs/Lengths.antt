@@ -1,6 +1,7 @@
 -- The lengths of the parts of a record.
 -- Assumes nothing.
 use mathlib.Core.Path.{_≡_, refl, _∙_}
+use mathlib.Core.Bool.{true}
 use mathlib.Core.Logic.{inl, inr}
 use mathlib.Core.List.{List, [], _∷_, _++_}
 use Prim.Native.Nat.{ℕ, _+_, _*_, _≤_}
@@ -11,7 +12,7 @@ use Rattle.model.specs.Lists.{forEach}
 use Rattle.model.specs.Bytes.{bytes, signedBytes}
 use Rattle.model.specs.Model.{Words, stateCount}
 use Rattle.model.specs.Questions.{bookNumber}
-use Rattle.model.specs.Policy.{Policy}
+use Rattle.model.specs.Policy.{Policy, hasPolicy}
 use Rattle.model.specs.Path.{policyCost}
 use Rattle.model.specs.Order.{ranking, rankingCosts}
 use Rattle.model.specs.Record.{listBytes, recordBytes}
@@ -84,8 +85,8 @@ module _ (ws : Words) (k : ℕ) where
     pub count-most : length (ranking ws k) ≤ k
     count-most = omega (arith, list-length ws ok k)
 
-    pub count-some : 1 ≤ k → 1 ≤ length (ranking ws k)
-    count-some h = omega (arith, list-length ws ok k, policies-some ws ok)
+    pub count-some : hasPolicy ws ≡ true → 1 ≤ k → 1 ≤ length (ranking ws k)
+    count-some has h = omega (arith, list-length ws ok k, policies-some ws ok has)
 
     -- "at most 21,308"
     pub record-most : k ≤ 64 → length (recordBytes ws k) ≤ 21308

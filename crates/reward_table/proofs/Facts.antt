@@ -10,11 +10,11 @@ use lib.IntN.{ℤ, pos, negsuc, natAbs, _+ℤ_}
 use lib.Signed.{leZ, ltZ}
 use Rattle.model.specs.Lists.{all}
 use Rattle.model.specs.Model.{Words, word}
-use Rattle.model.specs.Questions.{inside, costInside}
+use Rattle.model.specs.Questions.{inside}
 use Rattle.questions.specs.Ranges.{and-right, all-same}
 use Rattle.reward_table.specs.Table.{tableStates, tableLines, tableCount, tableLeft, tableRight, tableBranches, tableAfter, tableStateLine}
 use Rattle.reward_table.specs.Table.{closingLine}
-use Rattle.reward_table.specs.Table.{someBranch, linesFit, sumZ, weightsAdd, closingBare, rewardInside}
+use Rattle.reward_table.specs.Table.{someBranch, linesFit, sumZ, weightsAdd, closingBare, amountInside, rewardInside}
 use Rattle.reward_table.specs.Read.{TableRead, entryGiven}
 use Rattle.reward_table.specs.Says.{closingRewards}
 use Rattle.reward_table.specs.declared.Table.{Table}
@@ -79,11 +79,11 @@ module _ (t : Words) (j : ℕ) where
   entry-unbranched e = rw e
 
   module _ (some : leZ (pos 1) (tableLeft t j) ≡ true) (fit : tableAfter t j ≤ tableLines t) where
-    pub entry-beyond : costInside (tableRight t j) ≡ false → false ≡ entryGiven t j
+    pub entry-beyond : amountInside (tableRight t j) ≡ false → false ≡ entryGiven t j
     unfolding entryGiven someBranch linesFit rewardInside
     entry-beyond e = rw (some, le-leb (tableAfter t j) (tableLines t) fit, e)
 
-    pub entry-weighed : costInside (tableRight t j) ≡ true → weightsAdd t j ≡ entryGiven t j
+    pub entry-weighed : amountInside (tableRight t j) ≡ true → weightsAdd t j ≡ entryGiven t j
     unfolding entryGiven someBranch linesFit rewardInside
     entry-weighed e = rw (some, le-leb (tableAfter t j) (tableLines t) fit, e)
 
@@ -97,9 +97,9 @@ module _ (t : Words) (z : Table) (are : TableRead t z) (at : ℕ) (e : at ≡ ta
       (λ s l. ap (inside (pos 0) (pos 0)) (left-at t z are (tableStateLine t (tableStates t) + s) (z .columns + at + s) (omega (arith, e))))
       ∙ ap (λ (n : ℕ). all n (λ (s : ℕ). inside (pos 0) (pos 0) (tableLeft t (tableStateLine t (tableStates t) + s)))) (are .n-is)
 
-  pub rewards-are : all (z .n) (λ (i : ℕ). costInside (word t (z .columns + at + z .l + i))) ≡ all (tableStates t) (closingRewards t)
+  pub rewards-are : all (z .n) (λ (i : ℕ). amountInside (word t (z .columns + at + z .l + i))) ≡ all (tableStates t) (closingRewards t)
   unfolding rewardInside closingLine
   rewards-are =
       all-same (z .n) _ _
-      (λ s l. ap costInside (right-at t z are (tableStateLine t (tableStates t) + s) (z .columns + at + z .l + s) (omega (arith, e))))
-      ∙ ap (λ (n : ℕ). all n (λ (s : ℕ). costInside (tableRight t (tableStateLine t (tableStates t) + s)))) (are .n-is)
+      (λ s l. ap amountInside (right-at t z are (tableStateLine t (tableStates t) + s) (z .columns + at + z .l + s) (omega (arith, e))))
+      ∙ ap (λ (n : ℕ). all n (λ (s : ℕ). amountInside (tableRight t (tableStateLine t (tableStates t) + s)))) (are .n-is)

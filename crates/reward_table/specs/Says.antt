@@ -12,14 +12,14 @@ use lib.Dec.{leb, eqb}
 use lib.ListN.{length}
 use Rattle.model.specs.Lists.{all}
 use Rattle.model.specs.Model.{Words, word}
-use Rattle.model.specs.Questions.{inside, costInside}
+use Rattle.model.specs.Questions.{inside}
 use Rattle.laws.specs.Members.{T-true, true-T, same-test}
 use Rattle.questions.specs.Ranges.{and-true, all-at, all-yes, all-same, all-both, inside-range}
 use Rattle.reward_table.specs.Table.{tableScale, tableHorizon, tableStates, tableFirst, tableLines, tableCount, tableLeft, tableRight}
 use Rattle.reward_table.specs.Table.{tableBranches}
 use Rattle.reward_table.specs.Table.{tableAfter, tableSkip, tableStateLine, tableActionLine, closingLine, sizesGiven, countGiven, everyEntry}
 use Rattle.reward_table.specs.Table.{someBranch}
-use Rattle.reward_table.specs.Table.{linesFit, allUsed, weightsAdd, closingBare, rewardInside, linesGiven}
+use Rattle.reward_table.specs.Table.{linesFit, allUsed, weightsAdd, closingBare, amountInside, rewardInside, linesGiven}
 use Rattle.reward_table.specs.Read.{Given, entryGiven, stateGiven, statesGiven}
 
 -- ---- signed tests
@@ -38,7 +38,7 @@ own-inside : (lo hi : ℕ) (z : ℤ) → inside (pos lo) (pos hi) z ≡ true →
 own-inside lo hi z e = own lo z (and-true (leZ (pos lo) z) (leZ z (pos hi)) e .0)
 
 -- a reward that is allowed
-pub reward-small : (z : ℤ) → costInside z ≡ true → natAbs z ≤ 100000
+pub reward-small : (z : ℤ) → amountInside z ≡ true → natAbs z ≤ 100000
 reward-small (pos n) e = leb-true n 100000 e
 reward-small (negsuc n) e = let h = leb-true n 99999 (and-true (leb n 99999) true e .0) in omega arith
 
@@ -87,14 +87,14 @@ module _ (t : Words) (e : sizesGiven t ≡ true) where
 pub record EntryAs (t : Words) (j : ℕ) : Type 0 where
   pub some : tableLeft t j ≡ pos (tableBranches t j)
   pub fit : tableAfter t j ≤ tableLines t
-  pub reward : costInside (tableRight t j) ≡ true
+  pub reward : amountInside (tableRight t j) ≡ true
   pub weights : weightsAdd t j ≡ true
 
 pub entry-says : (t : Words) (j : ℕ) → entryGiven t j ≡ true → EntryAs t j
 unfolding entryGiven someBranch linesFit rewardInside tableBranches
 entry-says t j e =
     let w = and-true _ (weightsAdd t j) e in
-    let r = and-true _ (costInside (tableRight t j)) (w .0) in
+    let r = and-true _ (amountInside (tableRight t j)) (w .0) in
     let f = and-true (leZ (pos 1) (tableLeft t j)) (leb (tableAfter t j) (tableLines t)) (r .0) in
     record { some = own 1 (tableLeft t j) (f .0); fit = leb-true (tableAfter t j) (tableLines t) (f .1); reward = r .1; weights = w .1 }
 

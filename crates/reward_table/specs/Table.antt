@@ -4,13 +4,13 @@
 use Prim.Native.Nat.{ℕ, zero, suc, _+_, _*_}
 use mathlib.Core.Bool.{Bool, _&&_}
 use mathlib.Core.List.{List, [], _∷_, map}
-use lib.IntN.{ℤ, pos, natAbs, _+ℤ_}
+use lib.IntN.{ℤ, pos, negsuc, natAbs, _+ℤ_}
 use lib.Signed.{leZ, ltZ}
 use lib.Dec.{eqb, leb}
 use lib.ListN.{length}
 use Rattle.model.specs.Lists.{all, upFrom}
 use Rattle.model.specs.Model.{Words, word}
-use Rattle.model.specs.Questions.{Question, inside, costInside}
+use Rattle.model.specs.Questions.{Question, inside}
 use Rattle.content.specs.Content.{Line, Entry}
 
 -- "D, H, n, the first state and L as sizes"
@@ -125,9 +125,12 @@ weightsAdd t j =
 unfoldable pub closingBare : Words → ℕ → Bool
 closingBare t s = inside (pos 0) (pos 0) (tableLeft t (closingLine t s))
 
--- "a reward beyond 100,000 either way"
+-- "a reward beyond 100,000 either way": of an amount, and of the action or closing whose first line is line j
+abbrev pub amountInside : ℤ → Bool
+amountInside z = inside (negsuc 99999) (pos 100000) z
+
 unfoldable pub rewardInside : Words → ℕ → Bool
-rewardInside t j = costInside (tableRight t j)
+rewardInside t j = amountInside (tableRight t j)
 
 unfoldable pub linesGiven : Words → Bool
 linesGiven t =

@@ -12,7 +12,7 @@ use lib.Dec.{T, eqb}
 use lib.IntN.{ℤ, pos, _+ℤ_, +ℤ-idr}
 use lib.Signed.{_≤ℤ_, ≤ℤ-refl}
 use lib.ListN.{length, length-map}
-use Rattle.model.specs.Model.{Words, Action, scale, horizon, stateCount, actionCount, action, options}
+use Rattle.model.specs.Model.{Words, Action, scale, horizon, stateCount, actionCount, action, closed, options}
 use Rattle.model.specs.Questions.{bookNumber}
 use Rattle.model.specs.Policy.{Policy, isPolicy, policies}
 use Rattle.model.specs.Path.{totalCost, pathsFrom, byteAt, taken, paths, policyCost}
@@ -42,14 +42,6 @@ module _ (ws us : Words) (e : ℕ) (same : policies us ≡ policies ws)
 module _ (ws : Words) (ok : bookNumber ws ≡ 0) (p c d : ℕ) (state : p < stateCount ws) (own : c < actionCount ws p) where
   abbrev us : Words
   us = raised ws p c d
-
-  -- the two have the same policies
-  pub same-policies : policies (raised ws p c d) ≡ policies ws
-  unfolding policies
-  same-policies =
-      rw (states-same ws p c d)
-      (policies-same (action ws) (action us) (λ q b. ap (λ (a : Action). a .transitions) (action-raised ws p c d ok state own q b))
-      (options ws) (options us) (stateCount ws) 0 (0 ∷ []) (λ q l. options-same ws p c d q (omega arith)))
 
   -- how much more a policy's action at state p costs
   abbrev more : Policy → ℕ
@@ -111,15 +103,25 @@ module _ (ws : Words) (ok : bookNumber ws ≡ 0) (p c d : ℕ) (state : p < stat
           +-mono (policyCost ws bs) (policyCost ws bs) (pos (d * weightThrough ws bs p c)) (pos (mostRise ws d)) (≤ℤ-refl (policyCost ws bs))
           (omega (ints, le-in))
 
-  module _ (K : ℕ) where
-    -- "the cost at each rank doesn't fall and rises by at most d × D^H"
-    pub costs-move : Moved (mostRise ws d) (rankingCosts ws K) (rankingCosts (raised ws p c d) K)
-    costs-move = lists-near ws us (mostRise ws d) same-policies (λ bs i. cost-near bs (policies-are ws ok bs .0 i)) K
+  -- "the result of 2.2 covers raises where neither old nor new cost is the mark"
+  module _ (old : closed (action ws p c .cost) ≡ false) (new : closed (action (raised ws p c d) p c .cost) ≡ false) where
+    -- the two have the same policies
+    pub same-policies : policies (raised ws p c d) ≡ policies ws
+    unfolding policies
+    same-policies =
+        rw (states-same ws p c d)
+        (policies-same (action ws) (action us) (λ q b. ap (λ (a : Action). a .transitions) (action-raised ws p c d ok state own q b))
+        (options ws) (options us) (stateCount ws) 0 (0 ∷ []) (λ q l. options-same ws p c d ok state own old new q (omega arith)))
 
-    -- "the two lists have equal length"
-    pub lengths-same : length (ranking (raised ws p c d) K) ≡ length (ranking ws K)
-    unfolding rankingCosts
-    lengths-same = sym (length-map (ranking us K) (policyCost us)) ∙ costs-move .long ∙ length-map (ranking ws K) (policyCost ws)
+    module _ (K : ℕ) where
+      -- "the cost at each rank doesn't fall and rises by at most d × D^H"
+      pub costs-move : Moved (mostRise ws d) (rankingCosts ws K) (rankingCosts (raised ws p c d) K)
+      costs-move = lists-near ws us (mostRise ws d) same-policies (λ bs i. cost-near bs (policies-are ws ok bs .0 i)) K
+
+      -- "the two lists have equal length"
+      pub lengths-same : length (ranking (raised ws p c d) K) ≡ length (ranking ws K)
+      unfolding rankingCosts
+      lengths-same = sym (length-map (ranking us K) (policyCost us)) ∙ costs-move .long ∙ length-map (ranking ws K) (policyCost ws)
 
 -- ---- no lower bound would do
 

@@ -1,6 +1,7 @@
 -- The same of two written records, by the bytes that their reader has: k, and the eight bytes of the cost at each rank.
 -- Assumes nothing.
 use mathlib.Core.Path.{_≡_, refl, sym, ap, ap₂, _∙_, subst}
+use mathlib.Core.Bool.{false}
 use mathlib.Core.List.{List}
 use mathlib.Core.Option.{some}
 use Prim.Native.Nat.{ℕ, _+_, _*_, _≤_, _<_}
@@ -9,7 +10,7 @@ use lib.IntN.{ℤ, pos, negsuc, natAbs, _+ℤ_}
 use lib.Signed.{_≤ℤ_, mag}
 use lib.ListN.{getElem?, take, drop}
 use Rattle.model.specs.Bytes.{fromBytes}
-use Rattle.model.specs.Model.{Words, stateCount, actionCount}
+use Rattle.model.specs.Model.{Words, stateCount, actionCount, action, closed}
 use Rattle.model.specs.Questions.{bookNumber}
 use Rattle.model.specs.Policy.{Policy}
 use Rattle.model.specs.Path.{policyCost}
@@ -50,10 +51,12 @@ module _ (ws : Words) (ok : bookNumber ws ≡ 0) (K : ℕ) where
 -- ---- two records
 
 module _ (ws : Words) (ok : bookNumber ws ≡ 0) (p c d : ℕ) (state : p < stateCount ws) (own : c < actionCount ws p)
-    (raised-ok : bookNumber (raised ws p c d) ≡ 0) where
+    (raised-ok : bookNumber (raised ws p c d) ≡ 0) (old : closed (action ws p c .cost) ≡ false)
+    (new : closed (action (raised ws p c d) p c .cost) ≡ false) where
   -- of the same K, for a book and the same with one cost raised
   pub written-move : (K : ℕ) → K ≤ 64 → RecordMoved (mostRise ws d) (recordBytes ws K) (recordBytes (raised ws p c d) K)
-  written-move K h = record { count = count-written us raised-ok K h ∙ lengths-same ws ok p c d state own K ∙ sym (count-written ws ok K h); each = each }
+  written-move K h =
+      record { count = count-written us raised-ok K h ∙ lengths-same ws ok p c d state own old new K ∙ sym (count-written ws ok K h); each = each }
     where
       us : Words
       us = raised ws p c d
@@ -63,22 +66,24 @@ module _ (ws : Words) (ok : bookNumber ws ≡ 0) (p c d : ℕ) (state : p < stat
           × (filedCost (recordBytes us K) j ≤ℤ (filedCost (recordBytes ws K) j +ℤ pos (mostRise ws d)))
       each j l =
           let a = some-at (ranking ws K) j (omega (arith, count-written ws ok K h)) in
-          let b = some-at (ranking us K) j (omega (arith, count-written ws ok K h, lengths-same ws ok p c d state own K)) in
+          let b = some-at (ranking us K) j (omega (arith, count-written ws ok K h, lengths-same ws ok p c d state own old new K)) in
           rw (cost-filed ws ok K j (a .0) (a .1), cost-filed us raised-ok K j (b .0) (b .1))
-          (costs-move ws ok p c d state own K .each j (policyCost ws (a .0)) (policyCost us (b .0)) (costs-are ws ok K j (a .0) (a .1))
+          (costs-move ws ok p c d state own old new K .each j (policyCost ws (a .0)) (policyCost us (b .0)) (costs-are ws ok K j (a .0) (a .1))
           (costs-are us raised-ok K j (b .0) (b .1)))
 
--- whatever records are accepted: of the same K, where the book of the second is that of the first with one cost raised
+-- whatever records are accepted: of the same K, where the book of the second is that of the first with one cost raised, of an action open in both
 pub accepted-move : (first second : List ℕ) → Every (λ b. b < 256) first → Every (λ b. b < 256) second
     → acceptNumber first ≡ 0 → acceptNumber second ≡ 0 → carriedK second ≡ carriedK first
     → (p c d : ℕ) → p < stateCount (carriedBook first) → c < actionCount (carriedBook first) p → carriedBook second ≡ raised (carriedBook first) p c d
+    → closed (action (carriedBook first) p c .cost) ≡ false → closed (action (carriedBook second) p c .cost) ≡ false
     → RecordMoved (mostRise (carriedBook first) d) first second
-accepted-move first second fb sb fa sa k p c d state own e =
+accepted-move first second fb sb fa sa k p c d state own e old new =
     let f = accepted-exactly first fb .0 fa in
     let s = accepted-exactly second sb .0 sa in
-    let m = written-move (carriedBook first) (f .0) p c d state own (sym (ap bookNumber e) ∙ s .0) (carriedK first) (f .2) in
-    subst (λ (r : List ℕ). RecordMoved most r second) (sym (f .3))
-    (subst (RecordMoved most (recordBytes (carriedBook first) (carriedK first))) (sym (s .3 ∙ ap₂ recordBytes e k)) m)
+    let opened = ap (λ (us : Words). closed (action us p c .cost)) (sym e) ∙ new in
+    let m = written-move (carriedBook first) (f .0) p c d state own (sym (ap bookNumber e) ∙ s .0) old opened (carriedK first) (f .2) in
+    subst (λ (r : List ℕ). RecordMoved most r second) (sym (f .4))
+    (subst (RecordMoved most (recordBytes (carriedBook first) (carriedK first))) (sym (s .4 ∙ ap₂ recordBytes e k)) m)
   where
     most : ℕ
     most = mostRise (carriedBook first) d

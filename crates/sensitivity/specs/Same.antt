@@ -1,7 +1,8 @@
--- What the raised book says: its sizes, its options and its transitions are those of the book, and its costs too but for the one that is raised.
+-- What the raised book says: its sizes and its transitions are those of the book, and its costs too but for the one that is raised. Where neither
+-- the old nor the new cost is the mark of a closed action, its options are those of the book.
 -- Assumes nothing.
 use mathlib.Core.Path.{_≡_, refl, sym, ap, ap₂, _∙_, subst}
-use mathlib.Core.Bool.{Bool, true, false, _&&_, cond}
+use mathlib.Core.Bool.{Bool, true, false, not, _&&_, cond}
 use mathlib.Core.List.{List, map}
 use Prim.Native.Nat.{ℕ, zero, suc, _+_, _≤_, _<_}
 use native.Mathlib.Decide.{decLt}
@@ -11,11 +12,12 @@ use lib.Dec.{eqb, leb}
 use lib.IntN.{ℤ, pos, natAbs, _+ℤ_, +ℤ-idr}
 use lib.ListN.{length, length-set}
 use lib.Seq.{getD-set-same, getD-set-other}
-use Rattle.model.specs.Lists.{sumTo, upFrom, bit}
+use Rattle.model.specs.Lists.{sumTo, upFrom, bit, keep}
 use Rattle.model.specs.Model.{Words, Transition, Action, word, scale, horizon, lineCount, stageSize, firstState, stateCount, stage, actionCount}
-use Rattle.model.specs.Model.{left, right, branches, lineAfter, skip, stateLine, actionLine, transitionAt, readAction, action, options}
+use Rattle.model.specs.Model.{left, right, branches, lineAfter, skip, stateLine, actionLine, transitionAt, readAction, action, closed, options}
 use Rattle.model.specs.Questions.{bookNumber}
 use Rattle.laws.specs.Members.{In, map-same, upFrom-in}
+use Rattle.laws.specs.Kept.{keep-same}
 use Rattle.laws.specs.Raises.{raise}
 use Rattle.questions.specs.Ranges.{sum-same}
 use Rattle.questions.specs.Stages.{of-stage}
@@ -85,9 +87,6 @@ module _ (ws : Words) (p c d : ℕ) where
   actions-same : (q : ℕ) → q < stateCount ws → actionCount us q ≡ actionCount ws q
   unfolding actionCount
   actions-same q l = ap natAbs (ap (λ (h : ℕ). word us (4 + h + q)) horizon-same ∙ front-word (4 + horizon ws + q) (omega arith))
-
-  pub options-same : (q : ℕ) → q < stateCount ws → options (raised ws p c d) q ≡ options ws q
-  options-same q l = options-are us q ∙ ap (upFrom 0) (actions-same q l) ∙ sym (options-are ws q)
 
   -- ---- lines
 
@@ -212,3 +211,24 @@ module _ (ws : Words) (p c d : ℕ) where
               ∙ ap (raise (extra p c d q b)) (sym (action-is ws q b l k))
           go (yes l) (no k) = none (λ h g. k g)
           go (no l) e = none (λ h g. l h)
+
+      -- "raises where neither old nor new cost is the mark": the options are the same
+      module _ (old : closed (action ws p c .cost) ≡ false) (new : closed (action (raised ws p c d) p c .cost) ≡ false) where
+        open-same : (q b : ℕ) → closed (action us q b .cost) ≡ closed (action ws q b .cost)
+        open-same q b = go (eqb q p) refl (eqb b c) refl
+          where
+            other : extra p c d q b ≡ 0 → closed (action us q b .cost) ≡ closed (action ws q b .cost)
+            other e = rw (action-raised q b, e, +ℤ-idr (action ws q b .cost))
+
+            go : (s : Bool) → eqb q p ≡ s → (t : Bool) → eqb b c ≡ t → closed (action us q b .cost) ≡ closed (action ws q b .cost)
+            go true e true h = rw (eqb-true q p e, eqb-true b c h) (new ∙ sym old)
+            go true e false h = other (rw (e, h))
+            go false e t h = other (rw e)
+
+        pub options-same : (q : ℕ) → q < stateCount ws → options (raised ws p c d) q ≡ options ws q
+        options-same q l =
+            options-are us q
+            ∙ ap (λ (n : ℕ). keep (λ (b : ℕ). not (closed (action us q b .cost))) (upFrom 0 n)) (actions-same q l)
+            ∙ keep-same (λ (b : ℕ). not (closed (action us q b .cost))) (λ (b : ℕ). not (closed (action ws q b .cost))) (upFrom 0 (actionCount ws q))
+            (λ b i. ap not (open-same q b))
+            ∙ sym (options-are ws q)

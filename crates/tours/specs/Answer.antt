@@ -10,7 +10,8 @@ use Rattle.model.specs.Policy.{Policy}
 use Rattle.model.specs.Order.{ranking, rankingCosts}
 use Rattle.model.specs.Record.{acceptNumber}
 use Rattle.model.specs.Page.{page}
-use Rattle.model.specs.Calls.{ifAccepted, Room, valueNumber, valueCost, leastCost, rankNumber, writeNumber, writeRecord, acceptStates, acceptCount}
+use Rattle.model.specs.Calls.{ifAccepted, Room, valueNumber, valueCost, leastNumber, leastCost, rankNumber, writeNumber, writeRecord}
+use Rattle.model.specs.Calls.{acceptStates, acceptCount}
 
 pub data Call : Type 0 where
   check : Words → Call
@@ -37,7 +38,7 @@ orElse n a = ifAccepted n a (refused n)
 abbrev pub answer : Call → Answer
 answer (check ws) = orElse (bookNumber ws) good
 answer (value ws bs) = orElse (valueNumber ws bs) (cost (valueCost ws bs))
-answer (least ws) = orElse (bookNumber ws) (cost (leastCost ws))
+answer (least ws) = orElse (leastNumber ws) (cost (leastCost ws))
 answer (rank ws room) = orElse (rankNumber ws room) (listed (rankingCosts ws (room .k)) (ranking ws (room .k)))
 answer (write ws k lent) = orElse (writeNumber ws k (length lent)) (slice (writeRecord ws k lent))
 answer (accept bs) = orElse (acceptNumber bs) (record-of (acceptStates bs) (acceptCount bs))

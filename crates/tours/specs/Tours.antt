@@ -1,5 +1,5 @@
--- The twelve tours of document 01, as document 02 changes them: one table of calls and answers, and one proof, by computation, that the definitions
--- yield them.
+-- The twelve tours of document 01, as document 02 changes them, and books with closed choices: two tables of calls and answers, and one proof, by
+-- computation, that the definitions yield them.
 -- Assumes nothing.
 use Prim.Native.Nat.{ℕ, _+_, _*_}
 use mathlib.Core.Path.{_≡_, refl}
@@ -8,16 +8,19 @@ use lib.IntN.{pos, negsuc}
 use lib.ListN.{set, replicate}
 use Rattle.model.specs.Lists.{forEach}
 use Rattle.model.specs.Bytes.{bytes, signedBytes}
-use Rattle.model.specs.Model.{Words, word, scale, horizon, lineCount, stageSize, firstState, stateCount, stage, togo, actionCount, left, right, branches, lineAfter, skip, stateLine, actionLine, transitionAt, readAction, action, options}
-use Rattle.model.specs.Questions.{firstNo, sizesAllowed, lengthAllowed, countAllowed, countsAllowed, everyAction, branchesAllowed, linesAllowed, costAllowed, nextsAllowed, weightSum, weightsAllowed, largestCost, costsBounded, bookNumber}
-use Rattle.model.specs.Policy.{isPolicy, policies}
+use Rattle.model.specs.Model.{Words, word, scale, horizon, lineCount, stageSize, firstState, stateCount, stage, togo, actionCount, left, right}
+use Rattle.model.specs.Model.{branches, lineAfter, skip, stateLine, actionLine, transitionAt, readAction, action, options}
+use Rattle.model.specs.Questions.{firstNo, sizesAllowed, lengthAllowed, countAllowed, countsAllowed, everyAction, branchesAllowed, linesAllowed}
+use Rattle.model.specs.Questions.{costAllowed, nextsAllowed, weightSum, weightsAllowed, largestCost, costsBounded, bookNumber}
+use Rattle.model.specs.Policy.{isPolicy, policies, hasPolicy}
 use Rattle.model.specs.Path.{taken, paths, policyCost}
-use Rattle.model.specs.Recursion.{leastCostToGo}
 use Rattle.model.specs.Order.{comesBefore, ranking, rankingCosts}
 use Rattle.model.specs.Record.{listBytes, recordBytes, carriedLength, carriedK, carriedCount, carriedBook, listStart, askedNumber, acceptNumber}
 use Rattle.model.specs.Page.{decimal, policyLine, policyLines, titleLine, listPage, inputCount, inputBook, inputNumber, page}
-use Rattle.model.specs.Calls.{Room, valueNumber, valueCost, leastCost, rankNumber, rankCount, rankCosts, rankPlans, writeNumber, writeLength, writeRecord, acceptStates, acceptCount}
-use Rattle.tours.specs.Answer.{Call, check, value, rank, write, accept, print, Answer, refused, good, listed, slice, record-of, printed, answer}
+use Rattle.model.specs.Calls.{Room, valueNumber, valueCost, leastNumber, leastCost, rankNumber, rankCount, rankCosts, rankPlans, writeNumber}
+use Rattle.model.specs.Calls.{writeLength, writeRecord, acceptStates, acceptCount}
+use Rattle.tours.specs.Answer.{Call, check, value, least, rank, write, accept, print, Answer, refused, good, cost, listed, slice, record-of}
+use Rattle.tours.specs.Answer.{printed, answer}
 
 -- ---- the books
 
@@ -113,9 +116,9 @@ tours =
     ∷ record { call = rank bookA (roomFor 65 3); due = refused 14 }
     -- 8
     ∷ record { call = check []; due = refused 1 }
-    -- 9, as request 2.1 has it. With D = 3 the plan 0 0 0 has the days 0, 1 of weight 1 and cost 10 + 4, 0, 2 of weight 1 and cost 10 + 9, and the stop
-    -- after choice 0, whose weights leave 3 - 2 = 1, of cost 10: 14 + 19 + 10 = 43. The plan 1 0 255 has the day 0, 1 of weight 2 and cost 12 + 4 and the
-    -- stop of weight 3 - 2 = 1 and cost 12: 32 + 12 = 44. With D = 1 the weights 1 + 1 of choice 0 add to more than D
+    -- 9, as request 2.1 has it. With D = 3 the plan 0 0 0 has the days 0, 1 of weight 1 and cost 10 + 4, 0, 2 of weight 1 and cost 10 + 9, and the
+    -- stop after choice 0, whose weights leave 3 - 2 = 1, of cost 10: 14 + 19 + 10 = 43. The plan 1 0 255 has the day 0, 1 of weight 2 and
+    -- cost 12 + 4 and the stop of weight 3 - 2 = 1 and cost 12: 32 + 12 = 44. With D = 1 the weights 1 + 1 of choice 0 add to more than D
     ∷ record {
       call = rank (set bookA 0 (pos 3)) (roomFor 3 3);
       due = listed (pos 43 ∷ pos 44 ∷ []) ((0 ∷ 0 ∷ 0 ∷ []) ∷ (1 ∷ 0 ∷ 255 ∷ []) ∷ []);
@@ -132,6 +135,58 @@ tours =
     ∷ record { call = accept (recordA 1); due = refused 20 }
     ∷ []
 
-pub yield : map (λ (t : Tour). answer (t .call)) tours ≡ map (λ (t : Tour). t .due) tours
-unfolding word scale horizon lineCount stageSize firstState stateCount stage togo actionCount left right branches lineAfter skip stateLine actionLine transitionAt readAction action options firstNo sizesAllowed lengthAllowed countAllowed countsAllowed everyAction branchesAllowed linesAllowed costAllowed nextsAllowed weightSum weightsAllowed largestCost costsBounded bookNumber isPolicy policies taken paths policyCost leastCostToGo comesBefore ranking rankingCosts listBytes recordBytes carriedLength carriedK carriedCount carriedBook listStart askedNumber acceptNumber decimal policyLine policyLines titleLine listPage inputCount inputBook inputNumber page valueNumber valueCost leastCost rankNumber rankCount rankCosts rankPlans writeNumber writeLength writeRecord acceptStates acceptCount
+-- ---- closed choices (request 2.7)
+
+-- "A cost of 200,000 marks a choice as closed": the book with the cost at index i marked
+abbrev close : ℕ → Words → Words
+close i ws = set ws i (pos 200000)
+
+-- C with the first choice of post 1 closed, and the one choice of post 2, so that choice 1 of post 0 leads to a post with no open choice
+abbrev pub bookDead : Words
+bookDead = close 25 (close 29 bookC)
+
+-- C with the closing choice closed: no plan
+abbrev pub bookNone : Words
+bookNone = close 31 bookC
+
+-- the head of a record of that book, with k = 0, and no list
+abbrev headNone : List ℕ
+headNone = four 32 ++ four 3 ++ four 0 ++ forEach (signedBytes 4) bookNone
+
+-- "refused 28"
+abbrev lineNone : List ℕ
+lineNone = 114 ∷ 101 ∷ 102 ∷ 117 ∷ 115 ∷ 101 ∷ 100 ∷ 32 ∷ 50 ∷ 56 ∷ 10 ∷ []
+
+abbrev pub closings : List Tour
+closings =
+    -- "no plan takes it": neither the closed choice nor the open one that leads to a post with every choice closed
+    record { call = rank bookDead (roomFor 64 4); due = listed (pos 9 ∷ []) ((0 ∷ 1 ∷ 255 ∷ 0 ∷ []) ∷ []) }
+    ∷ record { call = least bookDead; due = cost (pos 9) }
+    ∷ record { call = value bookDead (0 ∷ 0 ∷ 255 ∷ 0 ∷ []); due = refused 17 }
+    ∷ record { call = value bookDead (1 ∷ 255 ∷ 0 ∷ 0 ∷ []); due = refused 17 }
+    -- 28: "no plan, asked after 14 and before any slice or question 20; for the least cost of the book, after 13"
+    ∷ record { call = check bookNone; due = good }
+    ∷ record { call = least bookNone; due = refused 28 }
+    ∷ record { call = rank bookNone (roomFor 65 4); due = refused 14 }
+    ∷ record { call = rank bookNone (record { k = 3; costs = 0; plans = 0 }); due = refused 28 }
+    ∷ record { call = write bookNone 3 []; due = refused 28 }
+    ∷ record { call = accept headNone; due = refused 28 }
+    ∷ record { call = print (fileOf 3 bookNone); due = printed lineNone }
+    ∷ record { call = value bookNone (0 ∷ 0 ∷ 255 ∷ 0 ∷ []); due = refused 17 }
+    -- "check 10 admits it", and no other cost beyond 100,000
+    ∷ record { call = check (set bookA 15 (pos 200001)); due = refused 10 }
+    ∷ record { call = check (set bookA 15 (negsuc 199999)); due = refused 10 }
+    -- "check 13 skips it (with no open cost the largest is 0)"
+    ∷ record { call = check (bookE 200000); due = good }
+    ∷ []
+
+-- ---- the proof
+
+pub yield : map (λ (t : Tour). answer (t .call)) (tours ++ closings) ≡ map (λ (t : Tour). t .due) (tours ++ closings)
+unfolding word scale horizon lineCount stageSize firstState stateCount stage togo actionCount left right branches lineAfter skip stateLine actionLine
+    transitionAt readAction action options firstNo sizesAllowed lengthAllowed countAllowed countsAllowed everyAction branchesAllowed linesAllowed
+    costAllowed nextsAllowed weightSum weightsAllowed largestCost costsBounded bookNumber isPolicy policies hasPolicy taken paths policyCost
+    comesBefore ranking rankingCosts listBytes recordBytes carriedLength carriedK carriedCount carriedBook listStart askedNumber acceptNumber decimal
+    policyLine policyLines titleLine listPage inputCount inputBook inputNumber page valueNumber valueCost leastNumber leastCost rankNumber rankCount
+    rankCosts rankPlans writeNumber writeLength writeRecord acceptStates acceptCount
 yield = refl

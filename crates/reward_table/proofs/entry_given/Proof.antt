@@ -8,8 +8,7 @@ use borrow.Author.Tests.{not-true, not-false}
 use lib.IntN.{pos}
 use lib.Signed.{leZ, ltZ}
 use Rattle.model.specs.Model.{Words, word}
-use Rattle.model.specs.Questions.{costInside}
-use Rattle.reward_table.specs.Table.{tableLines, tableLeft, tableRight, tableBranches, tableAfter}
+use Rattle.reward_table.specs.Table.{tableLines, tableLeft, tableRight, tableBranches, tableAfter, amountInside}
 use Rattle.reward_table.specs.Says.{after-is}
 use Rattle.reward_table.proofs.Facts.{above-one, left-at, right-at, branches-at, weights-as, entry-unfit, entry-unbranched, entry-beyond}
 use Rattle.reward_table.proofs.Facts.{entry-weighed}
@@ -29,10 +28,10 @@ left-test s e =
     sym (above-one (tableLeft (ws s) (s .args .j)))
     ∙ ap (ltZ (pos 0)) (sym (left-at (ws s) (s .args .z) (s .pre .1) (s .args .j) (s .args .z .columns + s .args .j) refl)) ∙ sym e
 
-reward-test : (s : tie.Start) {r : Bool} → r ≡ costInside (word (ws s) (s .args .z .columns + s .args .j + s .args .z .l))
-    → costInside (tableRight (ws s) (s .args .j)) ≡ r
+reward-test : (s : tie.Start) {r : Bool} → r ≡ amountInside (word (ws s) (s .args .z .columns + s .args .j + s .args .z .l))
+    → amountInside (tableRight (ws s) (s .args .j)) ≡ r
 reward-test s e =
-    ap costInside (sym (right-at (ws s) (s .args .z) (s .pre .1) (s .args .j) (s .args .z .columns + s .args .j + s .args .z .l) (omega arith)))
+    ap amountInside (sym (right-at (ws s) (s .args .z) (s .pre .1) (s .args .j) (s .args .z .columns + s .args .j + s .args .z .l) (omega arith)))
     ∙ sym e
 
 -- r, as it was read
