@@ -3,7 +3,7 @@ ghost use mathlib.Core.Path.{_≡_};
 ghost use lib.ListN.{length, take, drop};
 ghost use Rattle.model.specs.Questions.{bookNumber};
 ghost use Rattle.model.specs.Record.{acceptNumber};
-ghost use Rattle.model.specs.Calls.{powerOf, valueNumber, valueCost, leastCost, roomOf, rankNumber, rankCount, rankCosts, rankPlans, writeNumber, writeLength, writeRecord, acceptStates, acceptCount, shown};
+ghost use Rattle.model.specs.Calls.{powerOf, valueNumber, valueCost, leastNumber, leastCost, roomOf, rankNumber, rankCount, rankCosts, rankPlans, writeNumber, writeLength, writeRecord, acceptStates, acceptCount, shown};
 ghost use Rattle.reward_table.specs.Convert.{convertNumber, convertLength, convertSlice};
 ghost use Rattle.reservation.specs.Reservations.{heldBy, committedBy, openFor, reply, asking, committing, cancelling, opening};
 ghost use Rattle.kbest_c.specs.Part.{shownOffset, shownLength};
@@ -11,7 +11,7 @@ ghost use Rattle.kbest_c.specs.Version.{version};
 use reservation::Desk;
 
 // The version in the file VERSION: its first number × 10,000 + its second × 100 + its third.
-const VERSION: u32 = 10401;
+const VERSION: u32 = 10500;
 
 // The version of the library that is linked.
 #[no_mangle]
@@ -51,7 +51,7 @@ pub extern "C" fn kbest_value(book: &[i32], plan: &[u8], cost: &mut i64) -> u32
 // The number of the least cost of a book; that cost over D^H, 0 where it is refused.
 #[no_mangle]
 pub extern "C" fn kbest_least(book: &[i32], cost: &mut i64) -> u32
-    ensures { λ r. ⌜ (r ≡ bookNumber (now (book .entry))) × (now (cost .exit) ≡ leastCost (now (book .entry))) ⌝ }
+    ensures { λ r. ⌜ (r ≡ leastNumber (now (book .entry))) × (now (cost .exit) ≡ leastCost (now (book .entry))) ⌝ }
 {
     let v = least::least(book);
     let c = v.cost;
