@@ -1,5 +1,6 @@
-"""Random books for the tests: good ones of many shapes, with stops and without, broken ones, and plans of them. All is drawn from the random.Random that is
-handed in. The stored cases hold books of most shapes, so a shape keeps what it draws from a seed."""
+"""Random books for the tests: good ones of many shapes, with stops and closed choices and without, broken ones, and plans of them. All is drawn from the
+random.Random that is handed in. The stored cases hold books of most shapes, so a shape, a fault and the lists SHAPES and BREAKS keep what is drawn of them from
+a seed."""
 
 import itertools
 
@@ -126,10 +127,15 @@ def many(rng):
     return fill(rng, scale, random_sizes(rng, stages, 4), 5, 3, cost, 10 ** 7)
 
 
+def edge_sizes(rng):
+    """A scale and stages where question 13 allows no cost of 100,000."""
+    pairs = [(d, h) for h in (7, 8) for d in range(1, 101) if most_cost(d, h) < 100000]
+    return (100, 7) if rng.random() < 0.3 else rng.choice(pairs)    # 100^7 × 8 × 5,000 is the bound itself
+
+
 def edge(rng):
     """The largest cost stands at question 13's edge, or one beyond it."""
-    pairs = [(d, h) for h in (7, 8) for d in range(1, 101) if most_cost(d, h) < 100000]
-    scale, stages = (100, 7) if rng.random() < 0.3 else rng.choice(pairs)    # 100^7 × 8 × 5,000 is the bound itself
+    scale, stages = edge_sizes(rng)
     limit = most_cost(scale, stages) + rng.choice([0, 0, 1])
     found = rng.choice([limit, -limit])
     draw = rng.choice([lambda r: found, lambda r: r.choice([found, -found]), lambda r: r.choice([found, 0, 1])])
@@ -380,10 +386,169 @@ WITH_STOPS = [stops, stops_each_stage, stops_everywhere, sure_stops, post_0_stop
 SHAPES = WITHOUT_STOPS + WITH_STOPS
 
 
+# ---- shapes with closed choices
+
+def every_choice(book):
+    return [(post, c) for post in range(book.posts) for c in range(book.counts[post])]
+
+
+def closures(words):
+    """The closed choices."""
+    book = ref.Book(words)
+    return [(post, c) for post, c in every_choice(book) if not book.is_open(post, c)]
+
+
+def with_cost(words, where, cost):
+    """The book with this cost at each of the choices `where`."""
+    book, where = ref.Book(words), {*where}
+    rows = [[(cost if (post, c) in where else old, lines) for c, (old, lines) in enumerate(here)] for post, here in enumerate(book.choices)]
+    return build(book.scale, book.sizes, rows)
+
+
+def close(words, where):
+    return with_cost(words, where, ref.CLOSED)
+
+
+def opened(words):
+    """The book with a cost of 0 at each closed choice, so that a plan may take it."""
+    return with_cost(words, closures(words), 0)
+
+
+def random_plan(rng, book):
+    """A plan of the book with every choice open."""
+    plan, reached = [], {0}
+    for post in range(book.posts):
+        plan.append(rng.randrange(book.counts[post]) if post in reached else 255)
+        if post in reached:
+            reached.update(step for step, _ in book.next_posts(post, plan[post]))
+    return plan
+
+
+def without_closed(rng):
+    return rng.choice([small, ties, unreached, crossing, crossing, stops, stops_barely, stops_and_ties, post_0_stops])(rng)
+
+
+def partly_closed(rng, words):
+    """The book with some choices closed, before stage H alone or anywhere."""
+    choices = rng.choice([deciding, deciding, every_choice])(ref.Book(words))
+    return close(words, some(rng, choices, rng.choice([0.03, 0.1, 0.3])))
+
+
+def closed(rng):
+    return partly_closed(rng, without_closed(rng))
+
+
+def closed_last(rng):
+    """Closing choices alone are closed."""
+    words = without_closed(rng)
+    book = ref.Book(words)
+    return close(words, some(rng, [(post, 0) for post in range(book.first[book.stages], book.posts)], rng.choice([0.2, 0.5])))
+
+
+def closed_stage(rng):
+    """Every choice of one stage is closed: there is a plan only where a tour can stop surely before it."""
+    words = rng.choice([without_stops, sure_stops, post_0_stops])(rng)
+    book = ref.Book(words)
+    n = rng.randint(0, book.stages)
+    return close(words, [(post, c) for post, c in every_choice(book) if book.stage[post] == n])
+
+
+def all_closed(rng):
+    words = without_closed(rng)
+    return close(words, every_choice(ref.Book(words)))
+
+
+def closed_unreached(rng):
+    """Only choices of posts that no plan reaches are closed."""
+    while True:
+        words = rng.choice([unreached, unreached, small, few])(rng)
+        book = ref.Book(words)
+        found = reachable(book)
+        far = [(post, c) for post, c in every_choice(book) if post not in found]
+        if far:
+            return close(words, some(rng, far, rng.choice([0.3, 1])))
+
+
+def one_plan(rng):
+    """One plan is left: at the posts that it reaches every other choice is closed, at the others some are."""
+    while True:
+        words = without_closed(rng)
+        book = ref.Book(words)
+        plan = random_plan(rng, book)
+        others = [(post, c) for post, c in every_choice(book) if plan[post] not in (c, 255)]
+        far = [(post, c) for post, c in every_choice(book) if plan[post] == 255]
+        if others or far:
+            return close(words, others + (some(rng, far, 0.5) if far else []))
+
+
+def leading_to(rng, scale, lines, step):
+    """The lines, one of which leads to this next post."""
+    if any(other == step for other, _ in lines):
+        return lines
+    if not lines:
+        return [(step, rng.randint(1, scale))]
+    i = rng.randrange(len(lines))
+    return sorted(lines[:i] + [(step, lines[i][1])] + lines[i + 1:])
+
+
+def dead_ends(rng):
+    """A dead end two stages deep: at one post every choice is closed, and all choices of a post before it lead there. Some choice leads to that one; by chance
+    other ways go on."""
+    while True:
+        words = rng.choice([small, ties, unreached, unreached, stops, post_0_stops])(rng)
+        book = ref.Book(words)
+        inner = [post for post in sorted(reachable(book)) if 0 < book.stage[post] < book.stages]
+        if inner:
+            break
+    post = rng.choice(inner)
+    n = book.stage[post] + 1
+    step = rng.randrange(book.sizes[n])
+    book.choices[post] = [(cost, leading_to(rng, book.scale, lines, step)) for cost, lines in book.choices[post]]
+    end = book.first[n] + step
+    return close(build(book.scale, book.sizes, book.choices), [(end, c) for c in range(book.counts[end])])
+
+
+def closed_and_ties(rng):
+    return partly_closed(rng, rng.choice([ties, stops_and_ties])(rng))
+
+
+def closed_wide(rng):
+    return partly_closed(rng, rng.choice([wide, six, stops_wide])(rng))
+
+
+def closed_deep(rng):
+    return partly_closed(rng, rng.choice([deep, stops_deep])(rng))
+
+
+def closed_edge(rng):
+    """Open costs stand at question 13's edge, in some books one of them beyond it, at a post that is reached or not. The mark would be beyond it too."""
+    scale, stages = edge_sizes(rng)
+    limit = most_cost(scale, stages)
+    words = fill(rng, scale, random_sizes(rng, stages, 2), 3, 2, lambda r: r.choice([limit, -limit, 0, 1]), 100)
+    book = ref.Book(words)
+    where = [(post, rng.randrange(count)) for post, count in enumerate(book.counts) if count > 1 and rng.random() < 0.6]
+    far = [choice for choice in every_choice(book) if choice not in where]
+    if rng.random() < 0.4:
+        words = with_cost(words, [rng.choice(far)], rng.choice([limit + 1, -limit - 1]))
+    return close(words, where or [rng.choice(far)])
+
+
+def closed_large(rng):
+    return partly_closed(rng, rng.choice([large, stops_large])(rng))
+
+
+def closed_vast(rng):
+    return partly_closed(rng, rng.choice([vast, stops_vast])(rng))
+
+
+WITH_CLOSED = [closed, closed_last, closed_stage, all_closed, closed_unreached, one_plan, dead_ends, closed_and_ties, closed_wide, closed_deep, closed_edge]
+ALL_SHAPES = SHAPES + WITH_CLOSED
+
+
 # ---- books that the reference can enumerate
 
 def days_at_most(words):
-    """The most days that a plan of an accepted book can have: all that go on to a next post, and one if it stops."""
+    """The most days that a plan of an accepted book without closed choices can have: all that go on to a next post, and one if it stops."""
     book = ref.Book(words)
     most = [1] * book.posts
     for post in reversed(range(book.first[book.stages])):
@@ -392,9 +557,11 @@ def days_at_most(words):
 
 
 def feasible(words, plans=MOST_PLANS, walks=MOST_WALKS):
-    """Can the reference enumerate it? A book that it refuses costs nothing."""
+    """Can the reference enumerate it? A book that it refuses costs nothing. With closed choices it begins no more rows than there would be plans if every choice
+    were open."""
     if ref.check(words):
         return True
+    words = opened(words)
     most = min(plans, walks // days_at_most(words))
     return count_plans(words, most) <= most
 
@@ -550,6 +717,20 @@ def broken(rng, words, faults):
         except (IndexError, ValueError):
             pass
     return words
+
+
+def break_mark(rng, words, at):
+    """A cost near the mark, or the mark where no cost stands; next posts, weights and r of a closed choice are asked as of any other."""
+    kind = rng.randrange(6)
+    if kind < 3:
+        words[at.right + rng.choice(at.heads + at.last_heads)] = rng.choice([-ref.CLOSED, ref.CLOSED - 1, ref.CLOSED + 1, 100001])
+    elif kind < 5:
+        words[rng.choice([at.left, at.right]) + rng.choice(rng.choice(at.steps))] = ref.CLOSED
+    else:
+        words[at.left + rng.choice(at.heads + at.last_heads)] = ref.CLOSED
+
+
+BREAKS_CLOSED = BREAKS[9:] + [break_mark] * 3
 
 
 def with_row(words, post, choice, lines):

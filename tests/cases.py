@@ -5,8 +5,8 @@
     tests/cases.py show SEED N      prints case N of a seed of fresh.py, each command with what is expected; seed `stored` for a stored one
 
 Each rule of document 01 has its cases here: the tours, each question from both sides, which of two comes first, rooms and counts at their limits,
-ties, records with each byte changed, pages, the largest book. After them stand those of document 02: stops, six next posts, the desk, planners' tables. Breadth
-is fresh.py's; a few of its kinds are stored too. New cases are added at the end, so that the others keep their numbers.
+ties, records with each byte changed, pages, the largest book. After them stand those of document 02: stops, six next posts, the desk, planners' tables, closed
+choices. Breadth is fresh.py's; a few of its kinds are stored too. New cases are added at the end, so that the others keep their numbers.
 """
 
 import os
@@ -53,6 +53,34 @@ def thorough(words, *counts):
     for k in counts:
         out += ranked(words, k) + printed(words, k) + filed(words, k)
     return out
+
+
+def records_without_plan(words):
+    """Records of a book that has no plan, with each K and k, and lengths that fit k, are a byte short or a byte longer."""
+    posts, out = ref.Book(words).posts, []
+    for most in (0, 1, 3, 64, 65):
+        for k in (0, 1, 3, 4):
+            n = 12 + 4 * len(words) + k * (8 + posts)
+            out += [put(machine.head(words, most, k) + machine.book_bytes(words)), accept(n), accept(n - 1), accept(n + 1)]
+    return out + show(0, n)
+
+
+def without_plan(words):
+    """Every call on an accepted book that has no plan, with counts and rooms on both sides of what is allowed; and what would be its plans if no choice were
+    closed, the first ones."""
+    posts, n = ref.Book(words).posts, 12 + 4 * len(words)
+    out = book(words) + [Command('check'), Command('least')]
+    for plan in [(), (255,) * posts, *list(ref.plans(ref.Book(books.opened(words))))[:3]]:
+        out += value(plan)
+    for k in (0, 1, 3, 64, 65):
+        rooms = (0, 0), (k, 0), (0, k * posts), (k, k * posts)
+        out += [rank(k, *room) for room in rooms] + [write(k, room) for room in (0, n + k * (8 + posts))] + printed(words, k)
+    return out + records_without_plan(words)
+
+
+def every_call(words, *counts):
+    """As thorough, of a book that may have no plan."""
+    return thorough(words, *counts) if ref.ranking(words, 1) else without_plan(words)
 
 
 # ---- the tours
@@ -166,7 +194,7 @@ def word_limits(at, deep):
 
 def limits(rows):
     for question, what, words in rows:
-        yield 'question %d: %s' % (question, what), list(kinds.carried(words, 3, 1)) if ref.check(words) else thorough(words, 2)
+        yield 'question %d: %s' % (question, what), list(kinds.carried(words, 3, 1)) if ref.check(words) else every_call(words, 2)
 
 
 def limit_cases():
@@ -539,7 +567,7 @@ def refused_openings():
     """For each number a record that gets it, at a desk where ranks are held and committed."""
     found, n = {}, 0
     while len(found) < len(REFUSALS):
-        record = kinds.record_input(random.Random('opening:%d' % n))[:BOOK - OUT]
+        record = kinds.record_input(random.Random('opening:%d' % n), kinds.WITHOUT_CLOSED)[:BOOK - OUT]
         found.setdefault(ref.accept(record)[0], record)
         n += 1
     for no in sorted(REFUSALS - {0}):
@@ -729,6 +757,164 @@ def table_cases():
     yield 'table: all bytes are lent', book(TABLE) + [Command('convert', 0, machine.PLACES)]
 
 
+# ---- closed choices: a cost of 200,000 (2.7 of document 02)
+
+CLOSED = ref.CLOSED
+
+# Post 1 is a dead end two stages deep: its choices are open and lead to post 4, which has closed choices alone. Post 0 leads to it by its cheapest choice, and
+# has a closed choice. Posts 2 and 5 have one closed choice, post 3 has one beside a stop and a sure stop. Post 7 is closed at stage H.
+SHUT = books.build(4, [1, 3, 2, 2], [
+    [(3, [(0, 4)]), (7, [(1, 1), (2, 3)]), (CLOSED, [(1, 4)]), (9, [(2, 4)])],
+    [(1, [(0, 4)]), (2, [(0, 2), (1, 2)])], [(CLOSED, [(0, 4)]), (5, [(1, 4)])], [(2, [(1, 3)]), (4, []), (CLOSED, [(0, 1), (1, 3)])],
+    [(CLOSED, [(0, 4)]), (CLOSED, [(1, 4)])], [(6, [(0, 4)]), (1, [(1, 4)]), (CLOSED, [])],
+    [(2, [])], [(CLOSED, [])]])
+
+
+def of_stage(words, n):
+    """The choices of a stage."""
+    found = ref.Book(words)
+    return [(post, c) for post, c in books.every_choice(found) if found.stage[post] == n]
+
+
+def closed_costs():
+    """(question, what, book): costs near the mark, and the mark where no cost stands."""
+    at = books.Places(SMALL)
+    for what, line in (('cost', at.heads[0]), ('last cost', at.heads[-1]), ('closing cost', at.last_heads[0])):
+        yield from each(10, what, at.right + line, -CLOSED - 1, -CLOSED, 1 - CLOSED, CLOSED - 1, CLOSED, CLOSED + 1)
+    step = at.steps[0][0]
+    yield from each(11, 'next post', at.left + step, CLOSED)
+    yield from each(12, 'weight', at.right + step, CLOSED)
+    for what, line in (('r', at.heads[0]), ('r at stage H:', at.last_heads[0])):
+        yield from each(9, what, at.left + line, CLOSED)
+    for question, what, place in ((2, 'D', 0), (3, 'H', 1), (4, 'L', 2), (6, 'posts at stage 1:', 4), (8, 'choices', at.counts[0])):
+        yield from each(question, what, place, CLOSED)
+
+
+def closed_lines():
+    """(question, what, book): the lines of a closed choice."""
+    words = books.close(SMALL, [(0, 0)])
+    at = books.Places(words)
+    step = at.steps[0][0]
+    yield from each(9, 'r of a closed choice:', at.left + at.heads[0], LOW, -1, 0, 1, 3, 17, HIGH, words=words)
+    yield from ((9, '%d next posts of a closed choice' % r, books.close(row_at(2, *to_first(9, r)), [(9, 1)])) for r in (6, 7))
+    yield 9, 'a closed choice of stage H with a line', books.build(1, [1, 1], [[(5, [(0, 1)])], [(CLOSED, [(0, 1)])]])
+    yield from each(11, 'next post of a closed choice:', at.left + step, LOW, -1, 1, 2, words=words)
+    yield from each(12, 'weight of a closed choice:', at.right + step, LOW, 0, 2, 5, HIGH, words=words)
+    every = books.close(SMALL, books.every_choice(ref.Book(SMALL)))
+    yield from each(11, 'next post where every choice is closed:', at.left + step, 2, words=every)
+    yield from each(12, 'weight where every choice is closed:', at.right + step, 0, words=every)
+
+
+def far_cost(cost, *more):
+    """D = 100, H = 8: every choice is closed but that of post 2, which no plan reaches, and those of `more`."""
+    rows = [[(CLOSED, [(0, 100)])] for _ in range(9)] + [[(CLOSED, [])]]
+    rows[2] = [(cost, [(0, 100)])]
+    for post, other in more:
+        rows[post] = [(other, rows[post][0][1])]
+    return books.build(100, [1, 2] + [1] * 7, rows)
+
+
+def closed_bounds():
+    """(question, what, book): 13 with D = 100, where 200,000 would be beyond the bound with any H from 7 on."""
+    for x in (44, -44, 45, -45):
+        yield 13, 'cost %d, and a closed choice at each post' % x, row_of_posts(100, *[[(CLOSED, 100), (x, 100)]] * 8)
+        yield 13, 'cost %d at one post alone' % x, row_of_posts(100, *[[(1, 100), (CLOSED, 0)]] * 7, [(CLOSED, 100), (x, 0)])
+        yield 13, 'the only open cost, %d, at a post that no plan reaches' % x, far_cost(x)
+        yield 13, 'cost %d at a post that no plan reaches, and 1 at the others' % x, far_cost(x, *((post, 1) for post in (0, 1, *range(3, 10))))
+    at = books.Places(DEEP)
+    for x in (5000, 5001):
+        yield 13, 'cost %d beside a closed choice' % x, with_words(DEEP, (at.right + at.heads[0], CLOSED), (at.right + at.heads[1], x))
+        yield 13, 'cost %d closed, and as a closing cost' % x, with_words(DEEP, (at.right + at.heads[0], CLOSED), (at.right + at.last_heads[0], x))
+    yield 13, 'every choice closed, D 100 and H 8', books.close(tours.book_of_tour_10(45), [(post, 0) for post in range(9)])
+    yield 13, 'the mark within the bound', row_of_posts(1, [(CLOSED, 1), (100000, 1)], [(-100000, 1), (CLOSED, 1)])
+
+
+def closed_list_cases():
+    yield 'closed choices and dead ends', thorough(SHUT, 1, 2, 64)
+    for post, c in books.every_choice(ref.Book(SMALL)):
+        yield 'choice %d of post %d closed' % (c, post), every_call(books.close(SMALL, [(post, c)]), 3)
+    stopping = row_of_posts(2, [(3, 2), (4, 0)], [(-2, 1), (0, 0)], [(5, 0), (4, 2)])
+    for name, words in (('', SMALL), (', or a sure stop', stopping)):
+        for n in range(words[1] + 1):
+            yield 'every choice of stage %d of %d closed%s' % (n, words[1], name), every_call(books.close(words, of_stage(words, n)), 3)
+    for name, words in (('every choice closed', SMALL), ('every choice closed, some of them stops', STOPS)):
+        yield name, every_call(books.close(words, books.every_choice(ref.Book(words))), 3)
+    rows = [[(1, [(0, 3)]), (9, [(1, 3)])]] + [[(2, [(0, 3)])], [(3, [(1, 3)])]] * 4 + [[(4, [])], [(5, [])]]
+    two_ways = books.build(3, [1] + [2] * 5, rows)    # post 0 has two ways, of one post a stage each, and the first is the cheaper
+    for n in range(1, 6):
+        end = 2 * n - 1, 0
+        yield 'one way of two ends at stage %d of 5' % n, thorough(books.close(two_ways, [end]), 3)
+        yield 'one way ends at stage %d of 5, the other at post 0' % n, without_plan(books.close(two_ways, [end, (0, 1)]))
+    both = books.build(3, [1, 2, 2], [[(1, [(0, 1), (1, 2)]), (8, [(1, 3)])], [(2, [(0, 3)])], [(3, [(1, 3)])], [(CLOSED, [])], [(5, [])]])
+    yield 'one next post of two is a dead end', thorough(both, 2)
+    yield 'one plan left', thorough(books.close(SHUT, [(0, 1), (3, 0)]), 1, 64)
+    yield '64 plans that tie, the first closed', thorough(books.close(chain(8, 8), [(0, 0), (1, 7)]), 48, 49, 64)
+    yield '512 plans that tie, half of the choices closed', thorough(books.close(chain(8, 8, 8), [(n, c) for n in range(3) for c in range(n % 2, 8, 2)]), 64)
+    yield 'closed choices at posts that no plan reaches', thorough(books.close(far_posts(), [(3, 1), (5, 0)]), 64)
+
+
+def closed_value_cases():
+    """Every slice that would be a plan if no choice were closed, and others."""
+    slices = [*ref.plans(ref.Book(books.opened(SHUT)))]
+    yield 'slices with closed choices', book(SHUT) + [c for plan in slices for c in value(plan)]
+    yield 'no plans of a book with closed choices', book(SHUT) + list(not_plans(SHUT))
+    shut = books.close(SMALL, of_stage(SMALL, 1))
+    slices = [*ref.plans(ref.Book(SMALL))]
+    yield 'slices of a book without a plan', book(shut) + [c for plan in [*slices, (0, 255, 255, 255, 255)] for c in value(plan)]
+
+
+def closed_order_cases():
+    """A question of the book is answered no, and so is 28."""
+    words = books.close(DEEP, [(0, 0), (0, 1)])
+    at = books.Places(words)
+    for q, fault in FAULTS.items():
+        other = with_words(words, fault(at))
+        assert ref.check(other) == q
+        yield 'no plan, and question %d' % q, list(kinds.carried(other, 65, 0, b'1'))
+    for k in (0, 65, 2 ** 32 + 1, 2 ** 64 - 1):
+        yield 'no plan, and K %d' % k, list(kinds.carried(words, k, 0, b'1'))
+    yield 'no plan, and short slices', list(kinds.carried(words, 64, 65, b'1'))
+
+
+def closed_record_cases():
+    for bit in (1, 64):
+        yield 'the record of a book with closed choices, each byte with bit %d flipped' % bit, flipped(ref.record(SHUT, 2), bit)
+    for k in (2, 64):
+        yield 'other lists for a book with closed choices, K %d' % k, list(kinds.forged_lists(SHUT, k))
+    a, found = ref.record(SMALL, 3), ref.Book(SMALL)
+    at = books.Places(SMALL)
+    for (post, c), line in zip(books.every_choice(found), at.heads + at.last_heads):
+        closing = put(little(CLOSED, 4), OUT + 12 + 4 * (at.right + line))
+        yield 'choice %d of post %d closed in a filed record' % (c, post), [put(a), closing, accept(len(a))] + show(0, len(a))
+    shut = books.close(SMALL, of_stage(SMALL, 2))
+    for k in (0, 1):
+        again = opening(kinds.as_record(shut, 3, k, ref.ranking(SMALL, k)))
+        yield 'desk: an opening with a book that has no plan, k %d' % k, joined(opened(3), ask(0, 1), commit(0), ask(1, 2), again, commit(1), ask(2, 3))
+
+
+def largest_with_closed():
+    """Half of the choices before stage H are closed, and all of posts 25, 28, 57 and 62. So posts 52, 43 and 38, one a stage, are dead ends though each has an
+    open choice, and many choices lead to dead ends."""
+    words = largest_of('largest with closed choices', [6] * 220 + [2] * 4 + [1] * 216, 10)
+    rng, every = random.Random('closed'), books.every_choice(ref.Book(words))
+    words = books.close(words, [(post, c) for post, c in every if post < 56 and rng.random() < 0.5 or post in (25, 28, 57, 62)])
+    assert [post for post, x in enumerate(search.numbers(ref.Book(words), ())) if x is None] == [25, 28, 38, 43, 52, 57, 62]
+    return words
+
+
+def largest_without_plan():
+    words = largest_with_closed()
+    return books.close(words, of_stage(words, 8))
+
+
+def largest_with_closed_cases():
+    words = largest_with_closed()
+    with search.instead_of_enumeration():
+        calls = [Command('check'), Command('least')] + ranked(words, 64) + filed(words, 64) + printed(words, 3)
+        yield Case('the largest book with closed choices', book(words) + calls, True)
+    yield Case('the largest book without a plan', list(kinds.carried(largest_without_plan(), 64, 64)) + [rank(64, 64, 4096)], True)
+
+
 # ---- all of them
 
 DRAWN = {'small': 6, 'deep': 2, 'wide': 1, 'ties': 5, 'few': 3, 'unreached': 3, 'crossing': 6, 'many': 1, 'edge': 2, 'full': 1, 'faults': 6, 'noise': 8}
@@ -737,6 +923,8 @@ DRAWN_STOPS = {'stops': 3, 'post_0_stops': 1, 'stops_deep': 1, 'stops_each_stage
 DRAWN_ROWS = {'six': 2, 'stops_six': 2, 'seven': 6}
 DRAWN_DESKS = {'desk': 10}
 DRAWN_TABLES = {'convert': 24}
+DRAWN_CLOSED = {'closed': 6, 'closed_last': 3, 'closed_stage': 3, 'all_closed': 1, 'closed_unreached': 2, 'one_plan': 3, 'dead_ends': 6, 'closed_and_ties': 4,
+                'closed_wide': 2, 'closed_deep': 3, 'closed_edge': 5, 'closed, faults': 12, 'desk, closed': 4}
 
 
 def made(*groups):
@@ -759,6 +947,9 @@ def stored():
     cases += drawn(DRAWN_DESKS, sum(DRAWN.values()) + sum(DRAWN_STOPS.values()) + sum(DRAWN_ROWS.values()))
     cases += made(table_cases())
     cases += drawn(DRAWN_TABLES, sum(sum(counts.values()) for counts in (DRAWN, DRAWN_STOPS, DRAWN_ROWS, DRAWN_DESKS)))
+    cases += made(limits([*closed_costs(), *closed_lines(), *closed_bounds()]), closed_list_cases(), closed_value_cases(), closed_order_cases(),
+                  closed_record_cases()) + [*largest_with_closed_cases()]
+    cases += drawn(DRAWN_CLOSED, sum(sum(counts.values()) for counts in (DRAWN, DRAWN_STOPS, DRAWN_ROWS, DRAWN_DESKS, DRAWN_TABLES)))
     return [case._replace(title='%d %s' % (n, case.title)) for n, case in enumerate(cases)]
 
 

@@ -1,5 +1,6 @@
 """Random cases of many kinds, for fresh.py and programs.py; cases.py stores a few of them. Case N of a seed is drawn from these two only."""
 
+import collections
 import random
 
 import books
@@ -33,6 +34,14 @@ def values(rng, words):
         yield from value(rng.choice(listed)[1])
     for _ in range(rng.randint(1, 2)):
         yield from value(books.bent_plan(rng, words, rng.choice(listed)[1]))
+    if books.closures(words):
+        yield from any_choices(rng, words)
+
+
+def any_choices(rng, words):
+    """Slices that would be plans if no choice were closed."""
+    for _ in range(3):
+        yield from value(books.random_plan(rng, ref.Book(words)))
 
 
 def some_rank(rng, k, posts):
@@ -79,6 +88,9 @@ def good(rng, words):
     if ref.check(words):
         return
     posts, listed = ref.Book(words).posts, ref.in_order(tuple(words))
+    if not listed:
+        yield from without_plan(rng, words)
+        return
     yield from values(rng, words)
     yield some_rank(rng, some_count(rng, len(listed)), posts)
     most = some_count(rng, len(listed))
@@ -92,15 +104,31 @@ def good(rng, words):
     yield from record_changes(rng, words, most)
 
 
+def without_plan(rng, words):
+    """All calls on an accepted book that has no plan: with any count, in slices that are long enough and that are not, and a record with any k, whose length
+    fits it or does not."""
+    posts, most, k = ref.Book(words).posts, rng.choice([1, 2, 3, 64, rng.randint(1, 64), bad_count(rng)]), rng.randrange(3)
+    tail = bytes(rng.randrange(256) for _ in range(k * (8 + posts) + rng.choice([0, 0, 1, 8])))
+    yield from carried(words, most, k, tail)
+    yield from any_choices(rng, words)
+    most = rng.randint(1, 64)
+    yield from (some_rank(rng, most, posts), write(most, rng.choice([0, 11, 12 + 4 * len(words), 12 + 4 * len(words) + most * (8 + posts)])))
+
+
 def vast(rng):
     """All calls on a book that has too many plans to enumerate."""
-    words = rng.choice([books.vast, books.stops_vast])(rng)
+    words = rng.choice([books.vast, books.stops_vast, books.closed_vast])(rng)
     most = rng.choice([64, 64, rng.randint(2, 63)])
     with search.instead_of_enumeration():
         listed, record = ref.ranking(words, most), ref.record(words, most)
     n = len(record)
     yield from machine.book(words)
     yield from (Command('check'), Command('least'), rank(most, most, most * 64))
+    if books.closures(words):
+        yield from any_choices(rng, words)
+    if not listed:
+        yield from without_plan(rng, words)
+        return
     for plan in (listed[-1][1], rng.choice(listed)[1], books.bent_plan(rng, words, listed[0][1])):
         yield from value(plan)
     yield from (write(most, n), accept(n))
@@ -113,7 +141,7 @@ def vast(rng):
 
 def bad_counts(rng):
     """A good book with counts that are not allowed, and rooms that are short too."""
-    words = books.draw(rng, rng.choice(books.SHAPES))
+    words = books.draw(rng, rng.choice(books.ALL_SHAPES))
     yield from machine.book(words)
     posts = 3 if ref.check(words) else ref.Book(words).posts
     for _ in range(3):
@@ -138,6 +166,14 @@ def carried(words, most, k, tail=b''):
 # The books that faults are put into.
 FAULTY = [books.small, books.few, books.wide, books.edge]
 FAULTY_STOPS = [books.stops, books.stops_everywhere, books.sure_stops, books.stops_barely, books.stops_wide, books.stops_edge]
+FAULTY_CLOSED = [books.closed, books.closed_last, books.all_closed, books.closed_wide, books.closed_edge]
+
+# What is drawn from: shapes of any book, of one with several plans and of one that gets faults, and the faults.
+Source = collections.namedtuple('Source', 'shapes several faulty breaks')
+WITHOUT_CLOSED = Source(books.SHAPES, [books.small, books.ties, books.few, books.stops, books.stops_and_ties, books.post_0_stops], FAULTY + FAULTY_STOPS,
+                        books.BREAKS)
+WITH_CLOSED = Source(books.WITH_CLOSED, [books.closed, books.closed_and_ties, books.dead_ends], FAULTY_CLOSED, books.BREAKS + books.BREAKS_CLOSED)
+EVERY = Source(*(old + new for old, new in zip(WITHOUT_CLOSED, WITH_CLOSED)))
 
 
 def faulty(rng, faults, shapes=FAULTY + FAULTY_STOPS):
@@ -151,9 +187,9 @@ def faulty(rng, faults, shapes=FAULTY + FAULTY_STOPS):
     return words
 
 
-def some_faults(rng):
+def some_faults(rng, source):
     """A book with one fault or a few, or with a choice of 7 next posts or more."""
-    return books.seven(rng) if rng.random() < 0.1 else faulty(rng, rng.sample(books.BREAKS, rng.choice([1, 1, 1, 2, 3])))
+    return books.seven(rng) if rng.random() < 0.1 else faulty(rng, rng.sample(source.breaks, rng.choice([1, 1, 1, 2, 3])), source.faulty)
 
 
 def refused(rng, words):
@@ -200,12 +236,23 @@ def as_record(words, most, k, listed):
 
 def other_lists(words, most):
     """Records whose sizes fit and whose list is another: short by one plan, empty, with a plan twice, in another order, with a plan that belongs later,
-    with a cost that is not the plan's; and the record itself."""
+    with a cost that is not the plan's, with slices that take a closed choice; and the record itself."""
     listed = ref.in_order(tuple(words))
     best = listed[:most]
     for other in (best[:-1], [], best + best[-1:], best[:-1] + best[:1], best[1:2] + best[:1] + best[2:], best[:-1] + listed[-1:],
-                  [(best[0][0] + 1, best[0][1])] + best[1:], [(best[0][0], best[1][1])] + best[1:], best):
+                  [(best[0][0] + 1, best[0][1])] + best[1:], [(best[0][0], best[1][1])] + best[1:], best, *closed_lists(words, best)):
         yield as_record(words, most, len(other), other)
+
+
+def closed_lists(words, best):
+    """Lists as long as the best and one longer, with the first and the last slice that would be a plan if no choice were closed, at the cost that its days have
+    with the mark counted, and without."""
+    found = {plan for _, plan in ref.in_order(tuple(words))}
+    others = [plan for plan in ref.plans(ref.Book(books.opened(words))) if plan not in found]
+    for plan in others[:1] + others[1:][-1:]:
+        for book in (ref.Book(words), ref.Book(books.opened(words))):
+            row = ref.plan_cost(book, plan), plan
+            yield from (sorted(best[:-1] + [row]), sorted(best + [row]))
 
 
 def forged_lists(words, most):
@@ -214,17 +261,17 @@ def forged_lists(words, most):
         yield from show(0, len(content))
 
 
-def some_plans(rng):
+def some_plans(rng, source):
     """A book of three plans or more, and K."""
     listed = []
     while len(listed) < 3:
-        words = books.draw(rng, rng.choice([books.small, books.ties, books.few, books.stops, books.stops_and_ties, books.post_0_stops]))
+        words = books.draw(rng, rng.choice(source.several))
         listed = [] if ref.check(words) else ref.in_order(tuple(words))
     return words, min(64, rng.choice([2, 3, 5, len(listed), len(listed) + 1]))
 
 
 def forged(rng):
-    return forged_lists(*some_plans(rng))
+    return forged_lists(*some_plans(rng, EVERY))
 
 
 def longest(rng):
@@ -246,12 +293,12 @@ def any_input(rng):
     kind = rng.randrange(12)
     if kind == 0:
         return bytes(rng.randrange(256) for _ in range(rng.randrange(9)))
-    words = books.draw(rng, rng.choice([books.large, books.stops_large] if rng.random() < 0.01 else books.SHAPES))
+    words = books.draw(rng, rng.choice([books.large, books.stops_large, books.closed_large] if rng.random() < 0.01 else books.ALL_SHAPES))
     k = rng.choice([1, 2, 3, 64, rng.randint(1, 64)])
     if kind == 1:
         k = rng.choice([0, 65, 256, 2 ** 31, 2 ** 32 - 1])
     if kind in (2, 3):
-        words = some_faults(rng)
+        words = some_faults(rng, EVERY)
     data = machine.little(k, 4) + book_bytes(words)
     if kind == 4:
         return data + bytes(rng.randint(1, 3))
@@ -295,25 +342,31 @@ def bent_record(rng, words):
     return record
 
 
-def any_record(rng):
+def carrying(rng, words):
+    """The bytes of a record that is refused for its book or its count."""
+    return head(words, rng.choice([3, 64, bad_count(rng) % 2 ** 32]), rng.randrange(3)) + book_bytes(words) + bytes(rng.choice([0, 11]))
+
+
+def any_record(rng, source):
     """A record; or one that is bent, that has another list, or that carries a book or a count that is refused; or noise."""
     kind = rng.randrange(8)
     if kind == 0:
         return noise_bytes(rng)
     if kind == 1:
-        return rng.choice(list(other_lists(*some_plans(rng))))
-    words = books.draw(rng, rng.choice(books.SHAPES))
+        return rng.choice(list(other_lists(*some_plans(rng, source))))
+    words = books.draw(rng, rng.choice(source.shapes))
     if kind == 2 or ref.check(words):
-        words = some_faults(rng)
-        return head(words, rng.choice([3, 64, bad_count(rng) % 2 ** 32]), rng.randrange(3)) + book_bytes(words) + bytes(rng.choice([0, 11]))
+        return carrying(rng, some_faults(rng, source))
+    if ref.plan_no(words):
+        return carrying(rng, words)
     if kind in (3, 4):
         return bent_record(rng, words)
     return ref.record(words, some_count(rng, len(ref.in_order(tuple(words)))))
 
 
-def record_input(rng):
+def record_input(rng, source=EVERY):
     while True:
-        found = bytes(any_record(rng))
+        found = bytes(any_record(rng, source))
         if carried_feasible(found):
             return found
 
@@ -326,7 +379,7 @@ def any_ranks(rng):
     return [rng.choice([0, 0, rng.randrange(most), 255]) for _ in range(desk.RIDERS)]
 
 
-def first_of_desk(rng):
+def first_of_desk(rng, source):
     """A fresh desk, one that is opened, or one with any content; with k, or about that."""
     start = rng.randrange(8)
     if start == 0:
@@ -334,7 +387,7 @@ def first_of_desk(rng):
     if start < 3:
         k = rng.choice([0, 1, 5, 64, 65, 255])
         return fill(k, any_ranks(rng), any_ranks(rng)), k
-    words, most = some_plans(rng)
+    words, most = some_plans(rng, source)
     return opening(ref.record(words, most)), min(most, len(ref.in_order(tuple(words))))
 
 
@@ -346,14 +399,14 @@ def desk_call(rng, k):
     return commit(rider) if kind < 0.8 else cancel(rider)
 
 
-def at_desk(rng):
+def at_desk(rng, source):
     """Calls at a desk, an opening that is refused or another that is granted among them."""
     for _ in range(rng.choice([1, 1, 2])):
-        first, k = first_of_desk(rng)
+        first, k = first_of_desk(rng, source)
         yield from first
         for _ in range(rng.randint(10, 60)):
             yield from desk_call(rng, k)
-        yield from opening(record_input(rng)[:BOOK - OUT])
+        yield from opening(record_input(rng, source)[:BOOK - OUT])
         for _ in range(rng.randrange(10)):
             yield from desk_call(rng, k)
 
@@ -412,15 +465,26 @@ def faults(shapes):
     return lambda rng: refused(rng, faulty(rng, rng.sample(books.BREAKS, rng.randint(2, 4)), shapes))
 
 
+def closed_faults(rng):
+    """A book with closed choices and one fault or a few, at them or elsewhere."""
+    return refused(rng, faulty(rng, rng.sample(books.BREAKS_CLOSED, rng.choice([1, 1, 2, 3])), FAULTY_CLOSED))
+
+
+def desk_from(source):
+    return lambda rng: at_desk(rng, source)
+
+
 SHAPES = {'small': 250, 'deep': 130, 'wide': 56, 'ties': 140, 'few': 150, 'unreached': 80, 'crossing': 110, 'many': 30, 'edge': 80, 'large': 10, 'full': 4,
           'stops': 250, 'stops_each_stage': 100, 'stops_everywhere': 100, 'sure_stops': 80, 'post_0_stops': 60, 'stops_unreached': 50, 'stops_barely': 80,
           'stops_and_ties': 150, 'stops_and_gains': 80, 'stops_deep': 80, 'stops_wide': 50, 'stops_edge': 80, 'stops_many': 20, 'stops_large': 10,
-          'stops_full': 4, 'six': 40, 'stops_six': 40}
+          'stops_full': 4, 'six': 40, 'stops_six': 40, 'closed': 250, 'closed_last': 100, 'closed_stage': 60, 'all_closed': 30, 'closed_unreached': 50,
+          'one_plan': 80, 'dead_ends': 180, 'closed_and_ties': 180, 'closed_wide': 70, 'closed_deep': 110, 'closed_edge': 90, 'closed_large': 10}
 KINDS = {name: (weight, good_of(getattr(books, name))) for name, weight in SHAPES.items()}    # how often each is drawn, and how it is made
 KINDS.update({'fault %d' % n: (36, fault(n)) for n in range(1, 14)})
 KINDS.update({'seven': (40, seven), 'vast': (16, vast), 'faults': (120, faults(FAULTY)), 'stops, faults': (120, faults(FAULTY_STOPS)), 'wild': (60, wild),
               'bad counts': (60, bad_counts), 'noise': (140, noise), 'forged': (36, forged), 'longest': (4, longest), 'powers': (10, powers),
-              'page': (200, some_page), 'desk': (120, at_desk), 'convert': (200, conversion)})
+              'page': (200, some_page), 'desk': (100, desk_from(WITHOUT_CLOSED)), 'desk, closed': (60, desk_from(WITH_CLOSED)), 'convert': (200, conversion),
+              'closed, faults': (160, closed_faults)})
 
 
 def make(seed, n, name):

@@ -94,6 +94,8 @@ def input_edges():
     longest, a = longest_input(), little(3, 4) + book_bytes(tours.book_a())
     yield 'the longest book', longest
     yield 'the longest book with stops', little(64, 4) + book_bytes(cases.largest_with_stops())
+    yield 'the longest book with closed choices', little(64, 4) + book_bytes(cases.largest_with_closed())
+    yield 'the longest book without a plan', little(64, 4) + book_bytes(cases.largest_without_plan())
     yield from (('%d bytes after the longest book' % n, longest + bytes(n)) for n in (1, 2, 3, 4, 5, 6, 7, 8, 70000))
     yield from (('the first %d bytes of A' % n, a[:n]) for n in (*range(9), len(a) - 1))
     yield from (('%d bytes after A' % n, a + bytes(n)) for n in range(5))
@@ -104,6 +106,8 @@ def record_edges():
     places = {'W': 0, 'K': 4, 'k': 8, 'a word of the book': 12, 'a cost': 12 + 4 * 4172, 'a plan': 12 + 4 * 4172 + 8 * 64, 'the last byte': len(longest) - 1}
     yield 'the longest record', longest
     yield 'the longest record of a book with stops', longest_record(cases.largest_with_stops())
+    yield 'the longest record of a book with closed choices', longest_record(cases.largest_with_closed())
+    yield 'the longest book without a plan', longest_record(cases.largest_without_plan())
     yield from (('%d bytes after the longest record' % n, longest + bytes(n)) for n in (1, 2, 70000))
     yield 'the longest record without its last byte', longest[:-1]
     yield from (('the longest record, %s changed' % what, longest[:at] + bytes([longest[at] ^ 1]) + longest[at + 1:]) for what, at in places.items())

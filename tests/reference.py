@@ -1,4 +1,4 @@
-"""The rules of document 01 with the changes of document 02 (2.1, 2.3), word by word and without any search: plans and days are enumerated.
+"""The rules of document 01 with the changes of document 02 (2.1, 2.3, 2.7), word by word and without any search: plans and days are enumerated.
 
 Written from the documents alone. It shares nothing with the proved program, and is slow on purpose: every plan of the book is listed, every day
 of every plan is walked. Words below are those of the documents.
@@ -7,6 +7,7 @@ of every plan is walked. Words below are those of the documents.
 import functools
 
 LONGEST_BOOK = 4172
+CLOSED = 200000    # the cost that marks a choice as closed
 
 
 class Book:
@@ -32,6 +33,9 @@ class Book:
                 here.append((cost, [(left[line + i], right[line + i]) for i in range(1, r + 1)]))
                 line += 1 + r
             self.choices.append(here)
+
+    def is_open(self, post, choice):
+        return self.choices[post][choice][0] != CLOSED
 
     def next_posts(self, post, choice):
         start = self.first[self.stage[post] + 1] if self.stage[post] < self.stages else 0
@@ -62,8 +66,12 @@ def lines_fit(words):
     return line == lines
 
 
+def cost_allowed(cost):
+    return -100000 <= cost <= 100000 or cost == CLOSED
+
+
 def check(words):
-    """The number of the first question of a book that is answered no, or 0."""
+    """The number of the first question of a book that is answered no, or 0. Only 13 skips closed choices."""
     if len(words) < 3:
         return 1
     if not 1 <= words[0] <= 100:
@@ -88,7 +96,7 @@ def check(words):
         return 9
     book = Book(words)
     every = [(post, choice) for post in range(posts) for choice in book.choices[post]]
-    if any(not -100000 <= cost <= 100000 for _, (cost, _) in every):
+    if any(not cost_allowed(cost) for _, (cost, _) in every):
         return 10
     for post, (_, nexts) in every:
         steps = [step for step, _ in nexts]
@@ -101,14 +109,15 @@ def check(words):
             return 12
         if book.stage[post] < stages and sum(weight for _, weight in nexts) > book.scale:
             return 12
-    largest = max(abs(cost) for _, (cost, _) in every)
+    largest = max((abs(cost) for _, (cost, _) in every if cost != CLOSED), default=0)
     if book.scale ** stages * (stages + 1) * largest > 4 * 10 ** 18:
         return 13
     return 0
 
 
 def plans(book):
-    """All plans: post 0 is reached; if a post is reached, so are all next posts of its chosen choice."""
+    """All plans: post 0 is reached; if a post is reached, so are all next posts of its chosen choice. No plan takes a closed choice, so choices that reach a
+    post with every choice closed make none."""
     def grow(post, chosen, reached):
         if post == book.posts:
             yield tuple(chosen)
@@ -116,8 +125,9 @@ def plans(book):
             yield from grow(post + 1, chosen + [255], reached)
         else:
             for choice in range(book.counts[post]):
-                more = {step for step, _ in book.next_posts(post, choice)}
-                yield from grow(post + 1, chosen + [choice], reached | more)
+                if book.is_open(post, choice):
+                    more = {step for step, _ in book.next_posts(post, choice)}
+                    yield from grow(post + 1, chosen + [choice], reached | more)
     return grow(0, [], {0})
 
 
@@ -180,6 +190,16 @@ def count_no(k):
     return 0 if 1 <= k <= 64 else 14
 
 
+def plan_no(words):
+    """28, of a book that passes 1 to 13: has it a plan?"""
+    return 0 if ranking(words, 1) else 28
+
+
+def list_no(words, k):
+    """What ranking, writing and accepting ask of a book and K before any slice or the rest of a record: 1 to 14, then 28."""
+    return check(words) or count_no(k) or plan_no(words)
+
+
 # ---- the calls: each gives its number first
 
 def value(words, slice_):
@@ -192,13 +212,13 @@ def value(words, slice_):
 
 
 def least(words):
-    no = check(words)
+    no = check(words) or plan_no(words)
     return (no, 0) if no else (0, ranking(words, 1)[0][0])
 
 
 def rank(words, k, costs, slots):
     """Two lists that stand for the lent slices are changed in place."""
-    no = check(words) or count_no(k)
+    no = list_no(words, k)
     if no:
         return no, 0
     posts = Book(words).posts
@@ -222,7 +242,7 @@ def record(words, k):
 
 
 def write(words, k, lent):
-    no = check(words) or count_no(k)
+    no = list_no(words, k)
     if no:
         return no, 0
     out = record(words, k)
@@ -245,7 +265,7 @@ def accept(data):
     if w > LONGEST_BOOK or len(data) < 12 + 4 * w:
         return 19, 0, 0
     words = words_of(data[12:12 + 4 * w])
-    no = check(words) or count_no(most)
+    no = list_no(words, most)
     if no:
         return no, 0, 0
     posts = Book(words).posts
@@ -276,7 +296,7 @@ def asked(data):
     if len(data) < 4 or len(data) % 4:
         return 1, 0, []
     k, words = int.from_bytes(data[:4], 'little'), words_of(data[4:])
-    return check(words) or count_no(k), k, words
+    return list_no(words, k), k, words
 
 
 def refusal(no):

@@ -10,15 +10,25 @@ import heapq
 import reference as ref
 
 
+def number(book, found, post, choice):
+    """A choice's cost to the end over D^(H - n), by the numbers found of the next posts; None if one of them has none. Its cost counts whole, whether the day
+    goes on or stops there; each line adds the next post's number by its weight, and the missing part adds none."""
+    total = book.choices[post][choice][0] * book.scale ** (book.stages - book.stage[post])
+    for step, weight in book.next_posts(post, choice):
+        if found[step] is None:
+            return None
+        total += weight * found[step]
+    return total
+
+
 def numbers(book, row):
-    """For each post its cost to the end over D^(H - n): by the row's choice where the row has come to the post, by its best choice after. A choice's cost counts
-    whole, whether the day goes on or stops there; each line adds the next post's cost by its weight, and the missing part adds none."""
-    found = [0] * book.posts
+    """For each post its cost to the end over D^(H - n): by the row's choice where the row has come to the post, by its best choice after. A closed choice is
+    none; None where no choice has a number."""
+    found = [None] * book.posts
     for post in reversed(range(book.posts)):
-        rest = book.scale ** (book.stages - book.stage[post])
         made = row[post:post + 1] or range(book.counts[post])
-        found[post] = min((book.choices[post][c][0] * rest + sum(weight * found[step] for step, weight in book.next_posts(post, c))
-                           for c in made if c != 255), default=0)
+        known = [number(book, found, post, c) for c in made if c != 255 and book.is_open(post, c)]
+        found[post] = min((x for x in known if x is not None), default=None)
     return found
 
 
@@ -44,25 +54,30 @@ def grown(book, row):
 
 
 def first(words, k):
-    """As reference.ranking. Rows are taken by their least cost, then in order of their choices, so whole rows come out in the order of plans."""
-    book, out = ref.Book(words), []
-    start = grown(book, ())
-    rows = [(numbers(book, start)[0], start)]
+    """As reference.ranking. Rows are taken by their least cost, then in order of their choices, so whole rows come out in the order of plans. A row without a
+    number leads to no plan."""
+    book, out, rows = ref.Book(words), [], []
+
+    def keep(row):
+        cost = numbers(book, row)[0]
+        if cost is not None:
+            heapq.heappush(rows, (cost, row))
+    keep(grown(book, ()))
     while rows and len(out) < k:
         cost, row = heapq.heappop(rows)
         if len(row) == book.posts:
             out.append((cost, row))
             continue
         for choice in range(book.counts[len(row)]):
-            longer = grown(book, row + (choice,))
-            heapq.heappush(rows, (numbers(book, longer)[0], longer))
+            keep(grown(book, row + (choice,)))
     return out
 
 
 def is_plan(book, slice_):
     if len(slice_) != book.posts:
         return False
-    return all((choice < book.counts[post]) if reached(book, tuple(slice_[:post])) else choice == 255 for post, choice in enumerate(slice_))
+    return all((choice < book.counts[post] and book.is_open(post, choice)) if reached(book, tuple(slice_[:post])) else choice == 255
+               for post, choice in enumerate(slice_))
 
 
 def plan_cost(book, plan):

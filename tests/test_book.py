@@ -45,17 +45,18 @@ def stop_weights(words):
 
 
 def drawn(count):
-    """Good books, books with stops, books with faults, and words that are no book."""
+    """Good books, books with stops, books with closed choices, books with faults, and words that are no book."""
     rng = random.Random('text')
     for _ in range(count):
-        for shapes in (books.WITHOUT_STOPS + [books.many], books.WITH_STOPS + [books.stops_many]):
+        for shapes in (books.WITHOUT_STOPS + [books.many], books.WITH_STOPS + [books.stops_many], books.WITH_CLOSED):
             words = rng.choice(shapes)(rng)
             yield words
             if not ref.check(words):
-                yield books.broken(rng, words, rng.sample(books.BREAKS, rng.randint(1, 3)))
+                yield books.broken(rng, words, rng.sample(books.BREAKS + books.BREAKS_CLOSED, rng.randint(1, 3)))
         yield books.wild(rng)
     yield books.large(rng)
     yield books.stops_large(rng)
+    yield books.closed_large(rng)
 
 
 class RoundTrips(unittest.TestCase):
@@ -233,7 +234,63 @@ stage 2
         self.refused(with_line(text, 6, 'stop weight 2147483648'), 'line 7: 2147483648 does not fit 32 bits')
 
 
+CLOSED_BRIDGE = [4, 2, 18, 1, 2, 2, 3, 1, 3, 1, 1] + [1, 0, 2, 0, 1, 1, 1, 1, 0, 1, 0, 2, 0, 1, 1, 1, 0, 0] \
+    + [5, 4, 6, 1, 3, 8, 4, 200000, 4, 200000, 4, 9, 3, 1, 12, 4, 2, 1]
+
+
+class Closed(unittest.TestCase):
+    def drawn(self):
+        rng = random.Random('closed')
+        for _ in range(150):
+            yield rng, rng.choice(books.WITH_CLOSED)(rng)
+
+    def choices_of(self, text):
+        """The lines of choices, each without its first two words."""
+        return [line.split()[2:] for line in text.split('\n') if line.split()[:1] == ['choice']]
+
+    def test_closed_bridge(self):
+        with open(os.path.join(HERE, '..', 'examples', 'closed_bridge.txt'), 'rb') as f:
+            self.assertEqual(book.words_of_text(f.read()), CLOSED_BRIDGE)
+        self.assertEqual(self.choices_of(book.text_of_words(CLOSED_BRIDGE)).count(['closed']), 2)
+
+    def test_written_where_the_cost_is_the_mark(self):
+        """A word for each closed choice and a number for each other, and all lines below; the words are the same with the number of the mark."""
+        found = {'closed': 0, 'cost': 0}
+        for _, words in self.drawn():
+            text, costs = book.text_of_words(words), [cost for here in ref.Book(words).choices for cost, _ in here]
+            self.assertEqual(self.choices_of(text), [['closed'] if cost == ref.CLOSED else ['cost', str(cost)] for cost in costs])
+            self.assertEqual(book.words_of_text(text.encode()), words)
+            self.assertEqual(book.words_of_text(text.replace('closed', 'cost 200000').encode()), words)
+            for first, *_ in self.choices_of(text):
+                found[first] += 1
+            opened = book.text_of_words(books.with_cost(words, books.closures(words), 7))
+            self.assertEqual(text.replace('closed', 'cost 7'), opened)
+        self.assertGreater(min(found.values()), 500, found)
+
+    def test_near_the_mark(self):
+        """Other costs that question 10 refuses are written as they are."""
+        for cost in (-200000, 199999, 200001, 100001):
+            text = book.text_of_words(books.with_cost(CLOSED_BRIDGE, [(0, 0), (3, 0)], cost))
+            self.assertEqual(self.choices_of(text).count(['cost', str(cost)]), 2)
+
+    def test_where_no_cost_stands(self):
+        """200,000 is a word of its own only as a cost."""
+        words = books.build(200000, [1, 1], [[(1, [(200000, 200000)])], [(200000, [])]])
+        text = book.text_of_words(words)
+        self.assertEqual(text.count('closed'), 1)
+        self.assertEqual(text.count('200000'), 3)
+        self.assertEqual(book.words_of_text(text.encode()), words)
+
+
 class Records(unittest.TestCase):
+    def test_closed(self):
+        """The book of a record is written with its closed choices, and its plans take none."""
+        text = book.record_to_text(ref.record(CLOSED_BRIDGE, 4))
+        self.assertTrue(text.startswith('# a record: a book of 47 words, K = 4, k = 2\n\n' + book.text_of_words(CLOSED_BRIDGE)))
+        self.assertEqual(book.words_of_text(text.encode()), CLOSED_BRIDGE)
+        for post, choice in re.findall(r'^#   post (\d+) choice (\d+)$', text, re.M):
+            self.assertNotIn((int(post), int(choice)), books.closures(CLOSED_BRIDGE))
+
     def test_stops(self):
         """The book of a record is written with its stops."""
         record = ref.record(REFUSED_PARCEL, 4)
@@ -259,8 +316,8 @@ class Records(unittest.TestCase):
         """The plans and costs that are read back from the text are those of the list, and the rest of the text is the book."""
         rng = random.Random('records')
         for _ in range(120):
-            words = books.draw(rng, rng.choice(books.SHAPES))
-            if ref.check(words):
+            words = books.draw(rng, rng.choice(books.ALL_SHAPES))
+            if ref.check(words) or ref.plan_no(words):
                 continue
             k = rng.randint(1, 64)
             text = book.record_to_text(ref.record(words, k))
@@ -323,8 +380,14 @@ MESSAGES = [
     ('scale 2\nchoice 0 cost 1', 'line 2: a line "choice" before the first line "stage"'),
     ('scale 2\nstage 0\nchoice 0 cost 1', 'line 3: a line "choice" before the first line "post"'),
     ('scale 2\nstage 0\npost 0\nchoice 1 cost 1', 'line 4: choice 1 is written where choice 0 is due'),
-    ('scale 2\nstage 0\npost 0\nchoice 0', 'line 4: expected "choice NUMBER cost NUMBER"'),
-    ('scale 2\nstage 0\npost 0\nchoice 0 price 1', 'line 4: expected "choice NUMBER cost NUMBER"'),
+    ('scale 2\nstage 0\npost 0\nchoice 0', 'line 4: expected "choice NUMBER cost NUMBER" or "choice NUMBER closed"'),
+    ('scale 2\nstage 0\npost 0\nchoice 0 price 1', 'line 4: expected "choice NUMBER cost NUMBER" or "choice NUMBER closed"'),
+    ('scale 2\nstage 0\npost 0\nchoice 0 cost', 'line 4: expected "choice NUMBER cost NUMBER" or "choice NUMBER closed"'),
+    ('scale 2\nstage 0\npost 0\nchoice 0 closed 1', 'line 4: expected "choice NUMBER cost NUMBER" or "choice NUMBER closed"'),
+    ('scale 2\nstage 0\npost 0\nchoice closed', 'line 4: expected "choice NUMBER cost NUMBER" or "choice NUMBER closed"'),
+    ('scale 2\nstage 0\npost 0\nchoice 0 cost closed', 'line 4: "closed" is not a whole number'),
+    ('scale 2\nstage 0\npost 0\nchoice 1 closed', 'line 4: choice 1 is written where choice 0 is due'),
+    ('scale 2\nstage 0\nchoice 0 closed', 'line 3: a line "choice" before the first line "post"'),
     ('scale 2\nstage 0\npost 0\nchoice 0 cost x', 'line 4: "x" is not a whole number'),
     ('scale 2\nstage 0\npost 0\nnext 0 weight 2', 'line 4: a line "next" before the first line "choice"'),
     ('scale 2\nstage 0\nnext 0 weight 2', 'line 3: a line "next" before the first line "post"'),
@@ -390,17 +453,30 @@ class Document(unittest.TestCase):
     def test_text_form(self):
         blocks = re.findall(r'```\n(.*?)```', self.text, re.S)
         self.assertEqual(book.words_of_text(blocks[0].encode()), tours.book_a())
-        self.assertIn(blocks[1], book.text_of_words(REFUSED_PARCEL))
-        self.assertTrue(book.record_to_text(ref.record(tours.book_a(), 3)).endswith(blocks[2]))
+        self.assertIn(blocks[1], book.text_of_words(CLOSED_BRIDGE))
+        self.assertIn(blocks[2], book.text_of_words(REFUSED_PARCEL))
+        self.assertTrue(book.record_to_text(ref.record(tours.book_a(), 3)).endswith(blocks[3]))
 
     def test_pages(self):
         pages = [re.sub('^    ', '', part, flags=re.M) for part in re.findall(r'(?<=\n\n)(?:    .*\n)+(?=\n)', self.text)]
-        for words, k in ((tours.book_a(), 3), (REFUSED_PARCEL, 4)):
+        opened = books.with_cost(CLOSED_BRIDGE, books.closures(CLOSED_BRIDGE), 3)
+        for words, k in ((tours.book_a(), 3), (REFUSED_PARCEL, 4), (CLOSED_BRIDGE, 7), (opened, 7)):
             self.assertIn(ref.page(k.to_bytes(4, 'little') + book.bytes_of_words(words)).decode(), pages)
 
-    def test_words_of_refused_parcel(self):
-        row = re.search(r'`examples/refused_parcel.txt` has the words (.*?)\.', self.text, re.S)[1]
-        self.assertEqual([int(n) for n in re.findall(r'-?\d+', row)], REFUSED_PARCEL)
+    def test_words_of_examples(self):
+        for name, words in (('refused_parcel', REFUSED_PARCEL), ('closed_bridge', CLOSED_BRIDGE)):
+            row = re.search(r'`examples/%s.txt` has the words (.*?)\.' % name, self.text, re.S)[1]
+            self.assertEqual([int(n) for n in re.findall(r'-?\d+', row)], words)
+
+    def test_closed_bridge(self):
+        """What is said of it beside the lists: the largest open cost, the bytes of the mark, and no plan once another choice is closed."""
+        found = ref.Book(CLOSED_BRIDGE)
+        largest = max(found.choices[post][c][0] for post, c in books.every_choice(found) if found.is_open(post, c))
+        self.assertIn('compares 16 × 3 × %d = %d with' % (largest, 16 * 3 * largest), self.text)
+        self.assertIn('the bytes `%s`' % book.bytes_of_words([ref.CLOSED]).hex(' '), self.text)
+        shut = books.close(CLOSED_BRIDGE, [(0, 2)])
+        self.assertEqual((ref.check(shut), ref.page(b'\4\0\0\0' + book.bytes_of_words(shut))), (0, b'refused 28\n'))
+        self.assertIn('If choice 2 of post 0 is closed too, the book has no plan.', self.text)
 
     def figure(self, cell):
         """The number at the end of a cell, which the products and sums before it must give."""
@@ -409,19 +485,24 @@ class Document(unittest.TestCase):
             self.assertEqual(eval(sum_.replace('×', '*')), int(last))
         return int(last)
 
-    def test_days_of_refused_parcel(self):
-        """Each table of days: all days of its plan, by weight and cost, and their sums."""
-        found = re.findall(r'### The plan ([\d ]+)\n(.*?)(?=\n##)', self.text, re.S)
-        self.assertEqual([plan for plan, _ in found], ['0 0 0', '0 1 255'])
+    def days(self, title, words, plans):
+        """Each table of days in a section: all days of its plan, by weight and cost, and their sums."""
+        section = re.search(r'^## %s\n(.*?)^## ' % title, self.text, re.M | re.S)[1]
+        found = re.findall(r'### The plan ([\d ]+)\n(.*?)(?=\n##)', section, re.S)
+        self.assertEqual([plan for plan, _ in found], plans)
         for plan, part in found:
             plan = tuple(int(c) for c in plan.split())
             *rows, total = re.findall(r'^\| (\w+) \| ([^|]*)\| ([^|]*) \| ([^|]*)\| (\d+) \|$', part, re.M)
             days = [(self.figure(weight), self.figure(cost)) for _, _, weight, cost, _ in rows]
             self.assertEqual([weight * cost for weight, cost in days], [int(row[4]) for row in rows])
-            self.assertEqual(sorted(days), sorted(ref.days(ref.Book(REFUSED_PARCEL), plan)))
+            self.assertEqual(sorted(days), sorted(ref.days(ref.Book(words), plan)))
             self.assertEqual((total[2], sum(weight for weight, _ in days)), ('16 = D^H', 16))
             self.assertEqual(int(total[4]), sum(weight * cost for weight, cost in days))
-            self.assertEqual(ref.value(REFUSED_PARCEL, plan), (0, int(total[4])))
+            self.assertEqual(ref.value(words, plan), (0, int(total[4])))
+
+    def test_days(self):
+        self.days('A book with stops', REFUSED_PARCEL, ['0 0 0', '0 1 255'])
+        self.days('A book with closed choices', CLOSED_BRIDGE, ['2 255 1 0 0', '2 255 2 255 0'])
 
     def test_book_c(self):
         row = re.search(r'Book C has the words (.*?)\. Its', self.text, re.S)[1]

@@ -1,6 +1,6 @@
 #!/usr/bin/env python3
-"""books.py draws what its shapes say, the days of its plans weigh D^H together, and random cases and inputs meet books with stops often. Run:
-python3 tests/test_books.py"""
+"""books.py draws what its shapes say, the days of its plans weigh D^H together, the plans of a book are those that avoid its closed choices, and random cases
+and inputs meet books with stops and with closed choices often. Run: python3 tests/test_books.py"""
 
 import os
 import random
@@ -116,6 +116,98 @@ class Shapes(unittest.TestCase):
         self.assertGreater(min(found.values()), 50, found)
 
 
+def all_of(words, post):
+    """Is every choice of the post closed?"""
+    book = ref.Book(words)
+    return not any(book.is_open(post, c) for c in range(book.counts[post]))
+
+
+def dead_ends(words):
+    """The posts that have an open choice and could be reached if no choice were closed, and from which each open choice leads to a post that is all closed."""
+    book = ref.Book(words)
+    return [post for post in books.reachable(book) if not all_of(words, post)
+            and all(any(all_of(words, step) for step, _ in book.next_posts(post, c)) for c in range(book.counts[post]) if book.is_open(post, c))]
+
+
+class Closed(unittest.TestCase):
+    LARGE = [books.closed_large, books.closed_vast]
+    # What every book of a shape has.
+    HAVE = {
+        books.closed_last: lambda words: {ref.Book(words).stage[post] for post, _ in books.closures(words)} == {words[1]},
+        books.closed_stage: lambda words: any(all(all_of(words, post) for post, n in enumerate(ref.Book(words).stage) if n == stage)
+                                              for stage in range(words[1] + 1)),
+        books.all_closed: lambda words: all(cost == ref.CLOSED for cost in costs(words)),
+        books.closed_unreached: lambda words: not {post for post, _ in books.closures(words)} & books.reachable(ref.Book(words)),
+        books.one_plan: lambda words: books.count_plans(words, 1) == 1,
+        books.dead_ends: lambda words: any(ref.Book(words).stage[post] > 0 for post in dead_ends(words)),
+        books.closed_edge: lambda words: books.most_cost(words[0], words[1]) < 100000,
+    }
+
+    def every(self, shape, count, have):
+        self.assertTrue(all(have(words) for words in drawn(shape, count)), shape.__name__)
+
+    def test_closed(self):
+        for shape in books.WITH_CLOSED + self.LARGE:
+            self.every(shape, 5 if shape in self.LARGE else 100, books.closures)
+        for shape in books.SHAPES:
+            self.every(shape, 20, lambda words: not books.closures(words))
+
+    def test_what_each_has(self):
+        for shape, have in self.HAVE.items():
+            self.every(shape, 100, have)
+
+    def test_accepted(self):
+        """All but an open cost beyond question 13's edge is allowed; where the mark would be beyond it too, many books are accepted."""
+        for shape in books.WITH_CLOSED:
+            numbers = [ref.check(words) for words in drawn(shape, 100)]
+            if shape == books.closed_edge:
+                self.assertEqual({*numbers}, {0, 13})
+                self.assertGreater(min(numbers.count(0), numbers.count(13)), 20)
+            else:
+                self.assertEqual({*numbers}, {0}, shape.__name__)
+
+    def test_with_and_without_a_plan(self):
+        """Of each shape that leaves it open some books have no plan, and some have several."""
+        for shape in books.WITH_CLOSED:
+            rng = random.Random('plans ' + shape.__name__)
+            found = [books.draw(rng, shape) for _ in range(100)]
+            counts = [books.count_plans(words, 2) for words in found if not ref.check(words)]
+            none, several = counts.count(0), counts.count(2) + counts.count(3)
+            self.assertGreaterEqual(none, 0 if shape in (books.closed_unreached, books.one_plan, books.closed_edge) else 8, shape.__name__)
+            self.assertGreaterEqual(several, 0 if shape in (books.all_closed, books.one_plan) else 8, shape.__name__)
+
+    def test_plans(self):
+        """The plans are, in the same order, those of the book with every choice open that take no closed one."""
+        rng, taken = random.Random('avoided'), 0
+        for _ in range(300):
+            words = books.draw(rng, rng.choice(books.WITH_CLOSED))
+            if not ref.check(words):
+                where, every = {*books.closures(words)}, [*ref.plans(ref.Book(books.opened(words)))]
+                avoiding = [plan for plan in every if not where.intersection(enumerate(plan))]
+                self.assertEqual([*ref.plans(ref.Book(words))], avoiding)
+                taken += len(avoiding) < len(every)
+        self.assertGreater(taken, 150)
+
+    def test_dead_ends(self):
+        """No plan reaches a dead end, and costs and order of those that are left are as if every choice were open."""
+        rng, left = random.Random('dead ends'), 0
+        for _ in range(100):
+            words = books.draw(rng, books.dead_ends)
+            found, where = ref.in_order(tuple(words)), dead_ends(words)
+            self.assertTrue(all(plan[post] == 255 for _, plan in found for post in where))
+            self.assertEqual(found, [row for row in ref.in_order(tuple(books.opened(words))) if row in found])
+            left += len(found)
+        self.assertGreater(left, 300)
+
+    def test_without_closed(self):
+        """A book without a closed choice has a plan."""
+        rng = random.Random('open')
+        for shape in books.SHAPES:
+            for _ in range(8):
+                words = books.draw(rng, shape)
+                self.assertIn(ref.least(words)[0], (0, 13))
+
+
 class Days(unittest.TestCase):
     def plans(self, shapes, count):
         """(book, plan, its days) of some plans of random books that are accepted."""
@@ -183,23 +275,36 @@ class Faults(unittest.TestCase):
                 if n == 12:
                     self.assertGreater(numbers.count(0), 10)
 
+    def test_mark(self):
+        """Costs near the mark get 10, and the mark where no cost stands 9, 11 or 12. A book without next posts can have no fault there."""
+        rng, numbers = random.Random('mark'), []
+        for _ in range(300):
+            numbers.append(ref.check(kinds.faulty(rng, [books.break_mark], [books.closed, books.closed_last])))
+        self.assertEqual({*numbers}, {0, 9, 10, 11, 12})
+        self.assertGreater(min(numbers.count(n) for n in (9, 10, 11, 12)), 20)
+        self.assertLess(numbers.count(0), 20)
+
 
 class Met(unittest.TestCase):
-    """How many of the books that are accepted have a stop that some plan reaches: at least a third, and no more than two thirds."""
+    """How many of the books that are accepted have a stop that some plan reaches, at least a third and no more than two thirds; and how many have a closed
+    choice, at least a fifth and no more than a half."""
 
     def share(self, found):
-        stopped = sum(1 for words in found if reached_stops(words))
+        stopped, closed = sum(1 for words in found if reached_stops(words)), sum(1 for words in found if books.closures(words))
         self.assertGreater(len(found), 60)
         self.assertGreater(stopped, len(found) / 3)
         self.assertLess(stopped, len(found) * 2 / 3)
+        self.assertGreater(closed, len(found) / 5)
+        self.assertLess(closed, len(found) / 2)
 
     def test_cases(self):
-        self.share([words for n in range(120) for words in machine.books_of(kinds.fresh('met', n)) if not ref.check(words)])
+        self.share([words for n in range(160) for words in machine.books_of(kinds.fresh('met', n)) if not ref.check(words)])
 
     def test_inputs(self):
+        """Inputs that are accepted, and those whose book has no plan."""
         rng = random.Random('met')
         found = [ref.asked(kinds.page_input(rng)) for _ in range(300)]
-        self.share([words for no, _, words in found if no == 0])
+        self.share([words for no, _, words in found if no in (0, 28)])
 
     def test_records(self):
         rng = random.Random('met')

@@ -1,6 +1,6 @@
 #!/usr/bin/env python3
-"""The stored cases are those that cases.py makes, and every call has a case for each number that it can give, and is accepted with stops. Run:
-python3 tests/test_cases.py"""
+"""The stored cases are those that cases.py makes, and every call has a case for each number that it can give, and is accepted with stops and with closed
+choices. Run: python3 tests/test_cases.py"""
 
 import os
 import sys
@@ -15,7 +15,8 @@ import machine
 import reference as ref
 
 BOOK = range(14)    # 0, and the questions 1 to 13
-NUMBERS = {'check': {*BOOK}, 'least': {*BOOK}, 'value': {*BOOK, 17}, 'rank': {*BOOK, 14, 15, 16}, 'write': {*BOOK, 14, 18}, 'accept': {*BOOK, 14, 19, 20, 21}}
+NUMBERS = {'check': {*BOOK}, 'least': {*BOOK, 28}, 'value': {*BOOK, 17}, 'rank': {*BOOK, 14, 15, 16, 28}, 'write': {*BOOK, 14, 18, 28},
+           'accept': {*BOOK, 14, 19, 20, 21, 28}}
 AT_DESK = {'open': NUMBERS['accept'], 'ask': {0, 22, 23, 24}, 'commit': {0, 22, 24}, 'cancel': {0, 22}}
 OF_TABLES = {'convert': {0, 4, 6, 9, 11, 12, 13, 25, 26, 27}}    # the book of a table always passes 1 to 3, 5, 7, 8 and 10
 
@@ -42,14 +43,37 @@ class Stored(unittest.TestCase):
                 found[c.kind].add(int(text.split()[1]))
         self.assertEqual(found, wanted)
 
-    def test_stops(self):
-        """Each call is accepted in many cases of a book with stops, and in many of a book without."""
-        found = {(name, stops): 0 for name in NUMBERS for stops in (True, False)}
+    def accepted_with(self, has):
+        """For each call, in how many cases it is accepted of a book that has something, and of a book that has not."""
+        found = {(name, part): 0 for name in NUMBERS for part in (True, False)}
         for case, transcript in zip(self.cases, self.of_case):
             accepted = [words for words in machine.books_of(case) if ref.check(words) == 0]
             for name in {c.kind for c, text in transcript if c.kind in NUMBERS and int(text.split()[1]) == 0} if accepted else ():
-                found[name, any(books.stopping(words) for words in accepted)] += 1
+                found[name, any(has(words) for words in accepted)] += 1
+        return found
+
+    def test_stops(self):
+        """Each call is accepted in many cases of a book with stops, and in many of a book without."""
+        found = self.accepted_with(books.stopping)
         self.assertGreater(min(found.values()), 30, found)
+
+    def test_closed(self):
+        """Each call is accepted in many cases of a book with closed choices, and in many of a book without."""
+        found = self.accepted_with(books.closures)
+        self.assertGreater(min(found.values()), 30, found)
+
+    def test_no_plan(self):
+        """In many cases a book has no plan. Then a call that lists gives 28 or 14 whatever the slices are, the least cost 28, and valuing 17."""
+        numbers, cases_of = {name: set() for name in NUMBERS}, 0
+        for case, transcript in zip(self.cases, self.of_case):
+            accepted = [words for words in machine.books_of(case) if ref.check(words) == 0]
+            if not case.vast and accepted and all(books.closures(words) and ref.plan_no(words) for words in accepted):
+                cases_of += 1
+                for c, text in transcript:
+                    if c.kind in NUMBERS:
+                        numbers[c.kind].add(int(text.split()[1]))
+        self.assertEqual(numbers, {'check': {0}, 'least': {28}, 'value': {17}, 'rank': {14, 28}, 'write': {14, 28}, 'accept': {14, 19, 28}})
+        self.assertGreater(cases_of, 25)
 
     def test_rows(self):
         """At each of four stages every call accepts a row of 6 next posts, and gives 9 for one of 7."""

@@ -31,6 +31,7 @@ import tables
 import tours
 from kbest import QUESTIONS
 from tables import BY_HAND
+from test_book import CLOSED_BRIDGE
 from test_tables import BOOK_BY_HAND
 
 KBEST = os.path.join(ROOT, 'kbest')
@@ -62,12 +63,12 @@ def reward_page(words, k):
     return ('\n'.join(lines) + '\n').encode()
 
 
-def accepted_books(count):
-    """Random books that pass 1 to 13, each with a K that is allowed."""
+def accepted_books(count, shapes):
+    """Random books that pass 1 to 13 and 28, each with a K that is allowed."""
     rng = random.Random('command')
     while count:
-        words = books.draw(rng, rng.choice(books.SHAPES))
-        if not ref.check(words):
+        words = books.draw(rng, rng.choice(shapes))
+        if ref.least(words)[0] == 0:
             yield words, kinds.some_count(rng, len(ref.in_order(tuple(words))))
             count -= 1
 
@@ -176,6 +177,21 @@ class Verbs(Folder):
             short = b''.join(line for line in f if not line.lstrip().startswith(b'stop'))
         self.expect(run('-', '4', data=short), 0, page)
 
+    def test_closed_bridge(self):
+        """The example with closed choices, the same text with the number of the mark, and with the bridge open; filed, and its page."""
+        path = os.path.join(ROOT, 'examples', 'closed_bridge.txt')
+        opened = books.with_cost(CLOSED_BRIDGE, books.closures(CLOSED_BRIDGE), 3)
+        page, other = (ref.page(b'\7\0\0\0' + book.bytes_of_words(words)) for words in (CLOSED_BRIDGE, opened))
+        self.assertNotEqual(page, other)
+        self.expect(run(path, '7'), 0, page)
+        with open(path, 'rb') as f:
+            given = f.read()
+        self.expect(run('-', '7', data=given.replace(b' closed ', b' cost 200000 ')), 0, page)
+        self.expect(run('-', '7', data=given.replace(b' closed ', b' cost 3 ')), 0, other)
+        self.expect(run('check', path), 0, b'accepted\n')
+        self.expect(run('file', path, '7', '-o', self.path('record')), 0, b'')
+        self.expect(run('page', self.path('record')), 0, page)
+
     def test_two_states(self):
         """The example of source document 001, whose answer is a12 with a reward of 10, or 100 over D^H = 10; and its list as a record."""
         path = os.path.join(ROOT, 'examples', 'two_states.txt')
@@ -228,8 +244,20 @@ class RoundTrips(Folder):
                     self.checked(*(('book', text(given[0])) if call == 'check' else ('record', given[0])), result)
 
     def test_random_books(self):
-        for words, k in accepted_books(8):
+        for words, k in [*accepted_books(8, books.SHAPES), *accepted_books(5, books.WITH_CLOSED)]:
             self.round_trip(words, k)
+
+    def test_without_a_plan(self):
+        """A book that has no plan: nothing is printed or filed, and a record that carries it is refused, whatever it lists."""
+        rng = random.Random('no plan')
+        found = [books.close(CLOSED_BRIDGE, [(0, 2)]), books.draw(rng, books.all_closed), cases.far_cost(44)]
+        for words in found:
+            self.assertEqual(ref.check(words), 0)
+            self.refused(words, 3, 28)
+            self.refused(words, 0, 14)
+            self.checked('book', text(words), 28)
+            self.checked('record', ref.record(words, 3), 28)
+        self.checked('book', text(cases.far_cost(45)), 13)
 
     def test_random_tables(self):
         """The page of a table has the rewards of its own policies; the book has the costs."""
@@ -301,7 +329,8 @@ class Refusals(Folder):
 
     def test_records(self):
         carried = kinds.head(tours.book_a(scale=1), 3, 2) + book.bytes_of_words(tours.book_a(scale=1))
-        for number, record in ((19, A_3[:11]), (12, carried), (14, tours.record_of_a(65)), (20, tours.record_of_a(1)), (21, A_3[:-1] + b'\1')):
+        shut = ref.record(books.close(tours.book_a(), [(1, 0)]), 3)
+        for number, record in ((19, A_3[:11]), (12, carried), (14, tours.record_of_a(65)), (20, tours.record_of_a(1)), (21, A_3[:-1] + b'\1'), (28, shut)):
             with self.subTest(number=number):
                 self.assertEqual(ref.accept(record)[0], number)
                 self.each_verb(self.file('source', record), number, ('page',) if number == 21 else ('check',))
@@ -682,11 +711,11 @@ class FirstRun(Folder):
         self.assertFalse(os.path.exists(self.path('page')))
 
     def interrupted(self, number, waits, words, act=''):
-        """Sends a signal once a file is there: (exit status, what was said)."""
+        """Sends a signal once a file is written: (exit status, what was said)."""
         with subprocess.Popen([*PYTHON, self.path('kbest'), *words], env=self.how(act)['env'], stdout=subprocess.PIPE, stderr=subprocess.PIPE,
                               cwd=self.folder, preexec_fn=lambda: signal.signal(number, signal.SIG_DFL)) as child:
             for _ in range(1000):
-                if os.path.exists(waits):
+                if os.path.exists(waits) and os.path.getsize(waits):
                     break
                 time.sleep(0.01)
             child.send_signal(number)

@@ -1,7 +1,8 @@
 #!/usr/bin/env python3
 """Request 2.2: one cost of a random book is raised by d seconds, and both books go through the calls. The lists have equal length, and the cost at each rank
-does not fall and rises by at most d × D^H. The calls are those of the shared library of bindings/build.sh. The example of docs/GUARANTEES.md is what
-target/bin/kbest prints. Run: python3 tests/test_raises.py"""
+does not fall and rises by at most d × D^H. Neither the old nor the new cost is the mark of a closed choice; other choices may be closed (request 2.7). The
+calls are those of the shared library of bindings/build.sh. The example of docs/GUARANTEES.md is what target/bin/kbest prints. Run:
+python3 tests/test_raises.py"""
 
 import collections
 import os
@@ -17,13 +18,16 @@ sys.path[:0] = [HERE, os.path.join(HERE, '..', 'bindings', 'python')]
 import books
 import kbest
 import reference as ref
+import search
 import tours
 from machine import book_bytes, little
 
 Raise = collections.namedtuple('Raise', 'words post choice d')
 
-LARGE = [books.many, books.large, books.full, books.vast, books.stops_many, books.stops_large, books.stops_full, books.stops_vast]
-BOOKS = [(shape, 12) for shape in books.SHAPES] + [(shape, 2) for shape in LARGE]
+SHAPES = [shape for shape in books.ALL_SHAPES if shape is not books.all_closed]
+LARGE = [books.many, books.large, books.full, books.vast, books.stops_many, books.stops_large, books.stops_full, books.stops_vast, books.closed_large,
+         books.closed_vast]
+BOOKS = [(shape, 12) for shape in SHAPES] + [(shape, 2) for shape in LARGE]
 COUNTS = (1, 2, 3, 8, 63, 64)
 KBEST = os.path.join(HERE, '..', 'target', 'bin', 'kbest')
 
@@ -73,23 +77,38 @@ def filed(record):
     return [int.from_bytes(record[at:at + 8], 'little', signed=True) for at in range(12 + 4 * words, 12 + 4 * words + 8 * listed, 8)]
 
 
-def drawn(rng, shape):
-    """An accepted book."""
+def has_plan(words):
+    """By the search, since some books have too many plans to enumerate."""
+    return search.numbers(ref.Book(words), ())[0] is not None
+
+
+def drawn(rng, shape, planned=True):
+    """An accepted book that has a plan, or one that has none."""
     while True:
         words = shape(rng)
-        if not ref.check(words):
+        if not ref.check(words) and has_plan(words) == planned:
             return words
 
 
+def open_choices(words):
+    found = ref.Book(words)
+    return [(post, c) for post, c in books.every_choice(found) if found.is_open(post, c)]
+
+
+def amounts(rng, words, post, choice):
+    """By how much a choice is raised: nothing, 1, any, the most allowed."""
+    most = largest(words, post, choice)
+    for d in {0, min(1, most), rng.randint(0, most), most}:
+        yield Raise(words, post, choice, d)
+
+
 def picked(rng, words, plans):
-    """Choices to raise: any, one of post 0, one that a listed plan takes, and one that none takes. Then by how much: nothing, 1, any, the most allowed."""
-    every = [(post, c) for post, count in enumerate(ref.Book(words).counts) for c in range(count)]
+    """Open choices to raise: any, one of post 0, one that a listed plan takes, and one that none takes. Then by how much."""
+    every = open_choices(words)
     taken = sorted({(post, c) for plan in plans for post, c in enumerate(plan) if c != 255})
     free = [at for at in every if at not in taken]
     for post, c in {rng.choice(every), (0, plans[0][0]), (0, plans[-1][0]), rng.choice(taken)} | ({rng.choice(free)} if free else set()):
-        most = largest(words, post, c)
-        for d in {0, min(1, most), rng.randint(0, most), most}:
-            yield Raise(words, post, c, d)
+        yield from amounts(rng, words, post, c)
 
 
 class Raises(unittest.TestCase):
@@ -106,6 +125,7 @@ class Raises(unittest.TestCase):
         self.seen['choices that no listed plan takes'] += all(plan[change.post] != change.choice for plan in plans)
         self.seen['the most that is allowed'] += change.d == largest(*change[:3])
         self.seen['books with stops'] += bool(books.stopping(change.words))
+        self.seen['books with closed choices'] += bool(books.closures(change.words))
         self.seen['ranks that rise by the bound'] += rises.count(most)
         self.seen['ranks that stay'] += rises.count(0)
         self.seen['ranks that rise by less'] += sum(0 < rise < most for rise in rises)
@@ -132,17 +152,17 @@ class Raises(unittest.TestCase):
                 words = drawn(rng, shape)
                 for change in picked(rng, words, [plan for _, plan in kbest.rank(words, 64)]):
                     self.compare(change, rng.choice(COUNTS))
-        self.assertEqual(len(self.seen), 9)
+        self.assertEqual(len(self.seen), 10)
         for what, count in self.seen.items():
             self.assertGreater(count, 100, what)
 
     def test_plans(self):
         """Each listed plan costs d × the weight of its days through the choice more, and that weight is at most D^H."""
         rng, found = random.Random('raised plans'), collections.Counter()
-        for shape in books.SHAPES:
+        for shape in SHAPES:
             for _ in range(5):
                 words = books.draw(rng, shape)
-                if ref.check(words):
+                if ref.check(words) or not has_plan(words):
                     continue
                 plans = [plan for _, plan in kbest.rank(words, 8)]
                 for change in picked(rng, words, plans):
@@ -158,7 +178,7 @@ class Raises(unittest.TestCase):
     def test_one_word(self):
         """The raised book has one other word; with one second more than the most that is allowed it is refused."""
         rng, numbers = random.Random('raised words'), set()
-        for shape in books.SHAPES:
+        for shape in SHAPES:
             words = drawn(rng, shape)
             for change in picked(rng, words, [plan for _, plan in kbest.rank(words, 8)]):
                 other = raised(*change)
@@ -169,6 +189,31 @@ class Raises(unittest.TestCase):
                     kbest.check(raised(*change[:3], largest(*change[:3]) + 1))
                 numbers.add(refused.exception.number)
         self.assertEqual(numbers, {10, 13})
+
+    def test_without_a_plan(self):
+        """A book that has no plan has none after a raise."""
+        rng, raises = random.Random('raised without a plan'), 0
+        for shape in (books.closed, books.closed_last, books.closed_stage, books.dead_ends, books.closed_deep):
+            for _ in range(8):
+                words = drawn(rng, shape, False)
+                for post, c in rng.sample(open_choices(words), min(3, len(open_choices(words)))):
+                    for change in amounts(rng, words, post, c):
+                        for call in (kbest.least, lambda words: kbest.rank(words, 3), lambda words: kbest.write(words, 3)):
+                            with self.assertRaises(kbest.Refused) as refused:
+                                call(raised(*change))
+                            self.assertEqual(refused.exception.number, 28)
+                        raises += 1
+        self.assertGreater(raises, 200)
+
+    def test_to_the_mark(self):
+        """A choice that is closed is not raised: its plans are gone, so that many lists are shorter."""
+        rng, shorter = random.Random('raised to the mark'), 0
+        for shape in (books.small, books.crossing, books.stops, books.closed):
+            for _ in range(20):
+                words = drawn(rng, shape)
+                other = books.close(words, [(0, rng.choice(kbest.rank(words, 64))[1][0])])
+                shorter += has_plan(other) and len(kbest.rank(other, 64)) < len(kbest.rank(words, 64))
+        self.assertGreater(shorter, 10)
 
     def test_faults_are_found(self):
         self.assertEqual(faults([5, 7, 7], [5, 8, 9], 2), [])

@@ -1,5 +1,6 @@
 #!/usr/bin/env python3
-"""tests/search.py gives what reference.py gives, and both what document 01 says of a list, with stops and without. Run: python3 tests/test_search.py"""
+"""tests/search.py gives what reference.py gives, and both what document 01 says of a list, with stops and closed choices and without. Run:
+python3 tests/test_search.py"""
 
 import os
 import random
@@ -17,25 +18,34 @@ class Same(unittest.TestCase):
     def books(self, count):
         rng = random.Random('search')
         for _ in range(count):
-            words = books.draw(rng, rng.choice(books.SHAPES))
+            words = books.draw(rng, rng.choice(books.ALL_SHAPES))
             if not ref.check(words):
                 yield rng, words
 
     def test_lists(self):
-        found = {True: 0, False: 0}
+        found = {'stops': 0, 'no stops': 0, 'closed': 0, 'none closed': 0, 'no plan': 0}
         for rng, words in self.books(500):
             for k in (1, rng.randint(1, 64), 64):
                 self.assertEqual(search.first(words, k), ref.ranking(words, k))
-            found[bool(books.stopping(words))] += 1
-        self.assertGreater(min(found.values()), 120, found)
+            for what in ('stops' if books.stopping(words) else 'no stops', 'closed' if books.closures(words) else 'none closed'):
+                found[what] += 1
+            found['no plan'] += not ref.ranking(words, 1)
+        self.assertGreater(min(found[what] for what in found if what != 'no plan'), 120, found)
+        self.assertGreater(found['no plan'], 40)
 
     def test_plans_and_costs(self):
+        found = {True: 0, False: 0}
         for rng, words in self.books(240):
             book = ref.Book(words)
             for cost, plan in rng.sample(ref.in_order(tuple(words)), min(5, len(ref.in_order(tuple(words))))):
                 self.assertEqual(search.plan_cost(book, plan), cost)
                 for slice_ in (plan, books.bent_plan(rng, words, plan)):
                     self.assertEqual(search.is_plan(book, slice_), ref.is_plan(book, slice_))
+            if books.closures(words):
+                for slice_ in (books.random_plan(rng, book) for _ in range(4)):
+                    self.assertEqual(search.is_plan(book, slice_), ref.is_plan(book, slice_))
+                    found[ref.is_plan(book, slice_)] += 1
+        self.assertGreater(min(found.values()), 60, found)
 
     def test_order(self):
         """A plan is listed exactly when fewer than K plans come before it, as plan j if j of them do."""
