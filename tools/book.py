@@ -14,6 +14,7 @@ import re
 import sys
 
 LOW, HIGH = -2 ** 31, 2 ** 31 - 1
+CLOSED = 200000    # the cost that marks a choice as closed
 PLACES = 12
 DIGITS = 10    # of the largest number of 32 bits
 
@@ -49,13 +50,14 @@ def number(line, text):
 
 
 def fields(line, text, parts):
-    """The numbers of a line, whose other words must be those of its form."""
-    form = text.split()
-    if form[-1] == '..':
-        return [number(line, part) for part in parts[1:]]
-    if len(parts) != len(form) or any(a != b for a, b in zip(form, parts) if a != 'NUMBER'):
-        refuse(line, 'expected "%s"' % text)
-    return [number(line, part) for a, part in zip(form, parts) if a == 'NUMBER']
+    """The numbers of a line, whose other words must be those of its form, or of one of its forms."""
+    forms = text.split(' | ')
+    for form in map(str.split, forms):
+        if form[-1] == '..':
+            return [number(line, part) for part in parts[1:]]
+        if len(parts) == len(form) and all(a in ('NUMBER', b) for a, b in zip(form, parts)):
+            return [number(line, part) for a, part in zip(form, parts) if a == 'NUMBER']
+    refuse(line, 'expected ' + ' or '.join('"%s"' % form for form in forms))
 
 
 def columns(choices):
@@ -68,8 +70,8 @@ def columns(choices):
 
 
 class Reader:
-    """Takes the lines of a text. Each kind of line has a form in FORMS and a method take_; KIND is what the text says, unless it says plain words. Lines that
-    stand once and say one number of the whole are kept in `sizes`."""
+    """Takes the lines of a text. Each kind of line has a form in FORMS, or several parted by |, and a method take_; KIND is what the text says, unless it says
+    plain words. Lines that stand once and say one number of the whole are kept in `sizes`."""
 
     KIND, FORMS, SIZES = '', {}, ()
 
@@ -127,7 +129,7 @@ class BookReader(Reader):
         'scale': 'scale NUMBER',
         'stage': 'stage NUMBER',
         'post': 'post NUMBER',
-        'choice': 'choice NUMBER cost NUMBER',
+        'choice': 'choice NUMBER cost NUMBER | choice NUMBER closed',
         'next': 'next NUMBER weight NUMBER',
         'stop': 'stop weight NUMBER',
         'words': 'words NUMBER ..',
@@ -150,7 +152,7 @@ class BookReader(Reader):
         stage.append([])
         self.posts += 1
 
-    def take_choice(self, line, n, cost):
+    def take_choice(self, line, n, cost=CLOSED):
         post = self.post(line, 'choice')
         self.due(line, 'choice', n, len(post))
         post.append([cost, []])
@@ -252,6 +254,10 @@ def plain_words(words):
     return ''.join(' '.join(['words'] + [str(word) for word in row]) + '\n' for row in rows)
 
 
+def choice_line(choice, cost):
+    return '    choice %d ' % choice + ('closed' if cost == CLOSED else 'cost %d' % cost)
+
+
 def next_line(step, weight, first, later):
     """The comment gives the next post's number through the stages, where there is such a post."""
     note = '    # post %d' % (first + step) if later and 0 <= step < len(later[0]) else ''
@@ -275,7 +281,7 @@ def text_of_words(words):
         for i, post in enumerate(stage):
             out.append('  post %d' % (first + i))
             for c, (cost, nexts) in enumerate(post):
-                out.append('    choice %d cost %d' % (c, cost))
+                out.append(choice_line(c, cost))
                 out += [next_line(step, weight, first + len(stage), stages[n + 1:]) for step, weight in nexts]
                 out += stop_lines(scale, nexts, stages[n + 1:])
         first += len(stage)
