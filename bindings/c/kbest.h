@@ -3,6 +3,7 @@
  * A book is an array of signed 32-bit words: D, H, L, the posts of each stage, the choices of each post, then the left and the right column.
  * A choice has at most 6 next posts. The weights of a choice before stage H add to at most D. What is missing is the chance, over D, that the tour
  * stops after that choice: the day then costs the choices made so far. A choice without next posts before stage H is a sure stop.
+ * A cost of KBEST_CLOSED marks a choice as closed: no plan takes it, and none reaches a post with every choice closed. So a book may have no plan.
  * A plan has one byte for each of the book's S posts: the choice of a reached post, 255 for any other.
  * Costs are exact and stand over D^H: divide by kbest_power(D, H) for the expected total cost.
  * A planners' table is an array of the same kind: D, H, n, the first state, L, the choices of each of the n states, then the left and the right column, the
@@ -27,8 +28,8 @@ extern "C" {
 #endif
 
 /* The version of this header, as text and as a number: the first x 10,000 + the second x 100 + the third. */
-#define KBEST_VERSION_TEXT "1.4.1"
-#define KBEST_VERSION 10401
+#define KBEST_VERSION_TEXT "1.5.0"
+#define KBEST_VERSION 10500
 
 /* The version of the library that is linked, as a number. */
 uint32_t kbest_version(void);
@@ -48,6 +49,9 @@ uint32_t kbest_version(void);
 
 /* The byte of a post that a plan does not reach. */
 #define KBEST_NOT_REACHED 255
+
+/* The cost of a closed choice. */
+#define KBEST_CLOSED 200000
 
 /* What a call gives: 0, or the number of a question, which kbest_question has as text. */
 enum {
@@ -78,10 +82,12 @@ enum {
     KBEST_RESERVED = 24,
     KBEST_TABLE_SIZES = 25,
     KBEST_TABLE_LINES = 26,
-    KBEST_BOOK_ROOM = 27
+    KBEST_BOOK_ROOM = 27,
+    KBEST_NO_PLAN = 28
 };
 
-/* The questions, in order; each is put to the whole input before the next. Any other number gives an empty text. */
+/* The questions. Each call asks some of them in the order that it states, and each is put to the whole input before the next. Any other number gives an
+ * empty text. */
 static inline const char *kbest_question(uint32_t number) {
     switch (number) {
     case KBEST_TOO_FEW_WORDS: return "are there three words?";
@@ -93,10 +99,10 @@ static inline const char *kbest_question(uint32_t number) {
     case KBEST_BOOK_LENGTH: return "is the length exactly 4 + H + S + 2L words?";
     case KBEST_CHOICES: return "has each post 1 to 8 choices, and 1 at stage H?";
     case KBEST_LINES_USED: return "is every r from 0 to 6, and 0 at stage H, do all lines fit, and are exactly L used?";
-    case KBEST_COST: return "is every cost from -100,000 to 100,000?";
+    case KBEST_COST: return "is every cost from -100,000 to 100,000, or 200,000 where the choice is closed?";
     case KBEST_NEXT_POST: return "do the next posts of each choice rise strictly and lie within the next stage?";
     case KBEST_WEIGHT: return "is every weight from 1 to D, and does each choice's sum to at most D?";
-    case KBEST_BOUND: return "is D^H x (H + 1) x (largest cost without its sign) at most 4 x 10^18?";
+    case KBEST_BOUND: return "is D^H x (H + 1) x (largest cost of an open choice without its sign) at most 4 x 10^18?";
     case KBEST_COUNT: return "is K from 1 to 64?";
     case KBEST_COSTS_ROOM: return "has the lent array of costs K places?";
     case KBEST_PLANS_ROOM: return "has the lent array of plans K x S bytes?";
@@ -116,6 +122,7 @@ static inline const char *kbest_question(uint32_t number) {
         return "has each state 1 to 8 choices, is every r at least 1, do all lines fit, are exactly L used, do the weights of each choice add to D, "
                "has each closing line its 0, and is every reward from -100,000 to 100,000?";
     case KBEST_BOOK_ROOM: return "does the lent array hold the book?";
+    case KBEST_NO_PLAN: return "has the book a plan?";
     default: return "";
     }
 }
@@ -126,21 +133,21 @@ uint32_t kbest_check(const int32_t *book, size_t words);
 /* d^e for d from 1 to 100 and e from 0 to 8; 0 for any other. */
 uint64_t kbest_power(size_t d, size_t e);
 
-/* Values one plan: questions 1 to 13, then 17. *cost is the plan's cost. */
+/* Values one plan: questions 1 to 13, then 17. *cost is the plan's cost. In a book that has no plan every array gets 17. */
 uint32_t kbest_value(const int32_t *book, size_t words, const uint8_t *plan, size_t bytes, int64_t *cost);
 
-/* The least cost of all plans of a book: questions 1 to 13. */
+/* The least cost of all plans of a book: questions 1 to 13, then 28. */
 uint32_t kbest_least(const int32_t *book, size_t words, int64_t *cost);
 
-/* Lists the k best plans: questions 1 to 16. *listed is how many there are, k or as many as the book has. Plan j, counted from 0, has cost
+/* Lists the k best plans: questions 1 to 14, then 28, 15 and 16. *listed is how many there are, k or as many as the book has. Plan j, counted from 0, has cost
  * costs[j] and fills the S bytes of plans from j x S. Lower costs come first; of equal costs the lower choice at the first post where they differ. */
 uint32_t kbest_rank(const int32_t *book, size_t words, size_t k, int64_t *costs, size_t costs_room, uint8_t *plans, size_t plans_room,
                     size_t *listed);
 
-/* Writes the record of a book and k to the front of `record`: questions 1 to 14, then 18. *length is the record's length. */
+/* Writes the record of a book and k to the front of `record`: questions 1 to 14, then 28 and 18. *length is the record's length. */
 uint32_t kbest_write(const int32_t *book, size_t words, size_t k, uint8_t *record, size_t room, size_t *length);
 
-/* Accepts a record: question 19, then 1 to 14 of what it carries, 20 and 21. *posts is S of its book, *listed how many plans it lists. */
+/* Accepts a record: question 19, then 1 to 14 and 28 of what it carries, 20 and 21. *posts is S of its book, *listed how many plans it lists. */
 uint32_t kbest_accept(const uint8_t *record, size_t bytes, size_t *posts, size_t *listed);
 
 /* Where plan j of a record lies: *length bytes from record + *offset. Both are 0 where the record is not accepted or lists no plan j. */

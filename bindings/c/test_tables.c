@@ -9,6 +9,7 @@ int main(void) {
     printf("most of tables %d %d\n", KBEST_TABLE_MOST, KBEST_TABLE_BOOK_MOST);
     printf("riders %d\n", KBEST_RIDERS);
     printf("not reached %d\n", KBEST_NOT_REACHED);
+    printf("closed %d\n", KBEST_CLOSED);
     for (uint32_t number = 1; kbest_question(number)[0] != 0; number++)
         printf("refused %u: %s\n", number, kbest_question(number));
     return 0;

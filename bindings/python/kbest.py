@@ -1,9 +1,9 @@
 """The K best plans of a tour book, over the shared library that is linked from libkbest_c.a.
 
 A book is a sequence of 32-bit words, as is a planners' table; a plan and a record are bytes. Costs are exact and stand over D^H. Where the weights of a
-choice before the last stage add to less than D, the tour may stop after it: what is missing is the chance, over D. A refusal raises Refused, which has the
-number and the text of the first question that is answered no. The first call loads the library: KBEST_LIBRARY names it; else it is looked for where the build
-puts it.
+choice before the last stage add to less than D, the tour may stop after it: what is missing is the chance, over D. A choice whose cost is CLOSED is in no plan,
+and neither is a post with every choice closed, so a book may have no plan. A refusal raises Refused, which has the number and the text of the first question
+that is answered no. The first call loads the library: KBEST_LIBRARY names it; else it is looked for where the build puts it.
 """
 
 import ctypes
@@ -13,8 +13,8 @@ import pathlib
 import threading
 
 # of this module, as text and as the number that version() gives of the library
-VERSION_TEXT = '1.4.1'
-VERSION = 10401
+VERSION_TEXT = '1.5.0'
+VERSION = 10500
 
 BOOK_MOST = 4172
 POSTS_MOST = 64
@@ -24,8 +24,9 @@ TABLE_MOST = 4117
 TABLE_BOOK_MOST = 32775    # words of the longest book that a table can give: one of more than BOOK_MOST is always refused
 RIDERS = 16
 NOT_REACHED = 255
+CLOSED = 200000    # the cost of a closed choice
 
-# each is put to the whole input before the next
+# each call asks some of them in the order that it states, and each is put to the whole input before the next
 QUESTIONS = {
     1: 'are there three words?',
     2: 'is D from 1 to 100?',
@@ -36,10 +37,10 @@ QUESTIONS = {
     7: 'is the length exactly 4 + H + S + 2L words?',
     8: 'has each post 1 to 8 choices, and 1 at stage H?',
     9: 'is every r from 0 to 6, and 0 at stage H, do all lines fit, and are exactly L used?',
-    10: 'is every cost from -100,000 to 100,000?',
+    10: 'is every cost from -100,000 to 100,000, or 200,000 where the choice is closed?',
     11: 'do the next posts of each choice rise strictly and lie within the next stage?',
     12: "is every weight from 1 to D, and does each choice's sum to at most D?",
-    13: 'is D^H x (H + 1) x (largest cost without its sign) at most 4 x 10^18?',
+    13: 'is D^H x (H + 1) x (largest cost of an open choice without its sign) at most 4 x 10^18?',
     14: 'is K from 1 to 64?',
     15: 'has the lent array of costs K places?',
     16: 'has the lent array of plans K x S bytes?',
@@ -56,6 +57,7 @@ QUESTIONS = {
     26: 'has each state 1 to 8 choices, is every r at least 1, do all lines fit, are exactly L used, do the weights of each choice add to D, '
         'has each closing line its 0, and is every reward from -100,000 to 100,000?',
     27: 'does the lent array hold the book?',
+    28: 'has the book a plan?',
 }
 
 
@@ -163,19 +165,19 @@ def power(d, e):
 
 
 def value(book, plan):
-    """The cost of one plan: questions 1 to 13, then 17."""
+    """The cost of one plan: questions 1 to 13, then 17. In a book that has no plan every plan gets 17."""
     cost = ctypes.c_int64()
     return _answer(_library().kbest_value(*_words(book), *_bytes(plan), ctypes.byref(cost)), cost.value)
 
 
 def least(book):
-    """The least cost of all plans: questions 1 to 13."""
+    """The least cost of all plans: questions 1 to 13, then 28."""
     cost = ctypes.c_int64()
     return _answer(_library().kbest_least(*_words(book), ctypes.byref(cost)), cost.value)
 
 
 def rank(book, k):
-    """The k best plans as a list of (cost, plan): questions 1 to 14."""
+    """The k best plans as a list of (cost, plan): questions 1 to 14, then 28."""
     words, length = _words(book)
     costs, plans = (ctypes.c_int64 * PLANS_MOST)(), (ctypes.c_uint8 * (PLANS_MOST * POSTS_MOST))()
     listed = ctypes.c_size_t()
@@ -185,14 +187,14 @@ def rank(book, k):
 
 
 def write(book, k):
-    """The record of a book and k: questions 1 to 14."""
+    """The record of a book and k: questions 1 to 14, then 28."""
     record, length = (ctypes.c_uint8 * RECORD_MOST)(), ctypes.c_size_t()
     no = _library().kbest_write(*_words(book), _size(k), record, len(record), ctypes.byref(length))
     return _answer(no, bytes(record[:length.value]))
 
 
 def accept(record):
-    """(S, how many plans are listed): question 19, then 1 to 14 of what the record carries, 20 and 21."""
+    """(S, how many plans are listed): question 19, then 1 to 14 and 28 of what the record carries, 20 and 21."""
     posts, listed = ctypes.c_size_t(), ctypes.c_size_t()
     no = _library().kbest_accept(*_bytes(record), ctypes.byref(posts), ctypes.byref(listed))
     return _answer(no, (posts.value, listed.value))

@@ -1,7 +1,8 @@
 """Random cases of tests/kinds.py, every call of them put to the library and to the rules of the documents by enumeration: all must agree.
 
-The cases are accepted books of many shapes, books with a fault for each question, words that are none, plans and records with a fault, planners' tables, and
-counts and rooms at their limits. Each call must have given every number that it can give, so that no question goes untried.
+The cases are accepted books of many shapes, with closed choices and without a plan too, books with a fault for each question, words that are none, plans and
+records with a fault, planners' tables, and counts and rooms at their limits. Each call must have given every number that it can give, so that no question goes
+untried.
 """
 
 import ctypes
@@ -20,7 +21,7 @@ from test_cases import NUMBERS, OF_TABLES
 
 SEED = 'bindings'
 MANY, FEW, TABLES = 18, 2, 150    # cases of each kind, of a slow one, of tables
-SLOW = ('many', 'large', 'full', 'stops_many', 'stops_large', 'stops_full')
+SLOW = ('many', 'large', 'full', 'stops_many', 'stops_large', 'stops_full', 'closed_large')
 
 
 def answer(call, *arguments):
@@ -98,7 +99,7 @@ class Compared(machine.Machine):
         no, listed = reference.rank(self.words, c.k, costs, plans)
         self.seen['rank'].add(no)
         same('rank', rank_into(self.words, c.k, [machine.FILL] * c.z, part), (no, listed, costs, bytes(plans)))
-        no = reference.check(self.words) or reference.count_no(c.k)
+        no = reference.list_no(self.words, c.k)
         best = [] if no else [(cost, bytes(plan)) for cost, plan in reference.ranking(self.words, c.k)]
         same('rank', answer(kbest.rank, self.words, c.k), wanted(no, best))
         self.bytes[c.x:c.y] = plans
@@ -108,7 +109,7 @@ class Compared(machine.Machine):
         no, length = reference.write(self.words, c.k, record)
         self.seen['write'].add(no)
         same('write', write_into(self.words, c.k, part), (no, length, bytes(record)))
-        no = reference.check(self.words) or reference.count_no(c.k)
+        no = reference.list_no(self.words, c.k)
         same('write', answer(kbest.write, self.words, c.k), wanted(no, b'' if no else reference.record(self.words, c.k)))
         self.bytes[c.x:c.y] = record
 
@@ -150,7 +151,7 @@ def compare(case, seen):
 def drawn():
     """Cases of every kind but pages, which are no call of the library, desks, which test_desk.py compares, and books that the reference cannot enumerate."""
     for name in kinds.KINDS:
-        if name not in ('page', 'desk', 'vast'):
+        if name not in ('page', 'desk', 'desk, closed', 'vast'):
             for n in range(FEW if name in SLOW else TABLES if name == 'convert' else MANY):
                 yield kinds.make(SEED, n, name)
 

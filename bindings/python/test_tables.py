@@ -7,5 +7,6 @@ print('most %d %d %d %d' % (kbest.BOOK_MOST, kbest.POSTS_MOST, kbest.PLANS_MOST,
 print('most of tables %d %d' % (kbest.TABLE_MOST, kbest.TABLE_BOOK_MOST))
 print('riders %d' % kbest.RIDERS)
 print('not reached %d' % kbest.NOT_REACHED)
+print('closed %d' % kbest.CLOSED)
 for number in kbest.QUESTIONS:
     print(kbest.Refused(number))

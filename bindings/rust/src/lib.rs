@@ -1,16 +1,17 @@
 //! The K best plans of a tour book: a safe wrapper of the static library `libkbest_c.a`.
 //!
 //! A book is a slice of 32-bit words, as is a planners' table; a plan has one byte for each post. Costs are exact and stand over D^H. Where the weights of a
-//! choice before the last stage add to less than D, the tour may stop after it: what is missing is the chance, over D. Each call takes any slice of any
-//! length and any count; what cannot be answered is refused with the first question that is answered no. Nothing is allocated here.
+//! choice before the last stage add to less than D, the tour may stop after it: what is missing is the chance, over D. A choice whose cost is `CLOSED` is in
+//! no plan, and neither is a post with every choice closed, so a book may have no plan. Each call takes any slice of any length and any count; what cannot be
+//! answered is refused with the first question that is answered no. Nothing is allocated here.
 
 use std::fmt;
 use std::num::NonZeroU32;
 
 /// The version of this wrapper as text.
-pub const VERSION_TEXT: &str = "1.4.1";
+pub const VERSION_TEXT: &str = "1.5.0";
 /// The same as a number: the first × 10,000 + the second × 100 + the third.
-pub const VERSION: u32 = 10401;
+pub const VERSION: u32 = 10500;
 
 /// The longest book in words.
 pub const BOOK_MOST: usize = 4172;
@@ -28,9 +29,11 @@ pub const TABLE_BOOK_MOST: usize = 32775;
 pub const RIDERS: usize = 16;
 /// The byte of a post that a plan does not reach.
 pub const NOT_REACHED: u8 = 255;
+/// The cost of a closed choice.
+pub const CLOSED: i32 = 200_000;
 
-/// The questions 1 to 27, in order; each is put to the whole input before the next.
-pub const QUESTIONS: [&str; 27] = [
+/// The questions 1 to 28. Each call asks some of them in the order that it states, and each is put to the whole input before the next.
+pub const QUESTIONS: [&str; 28] = [
     "are there three words?",
     "is D from 1 to 100?",
     "is H from 1 to 8?",
@@ -40,10 +43,10 @@ pub const QUESTIONS: [&str; 27] = [
     "is the length exactly 4 + H + S + 2L words?",
     "has each post 1 to 8 choices, and 1 at stage H?",
     "is every r from 0 to 6, and 0 at stage H, do all lines fit, and are exactly L used?",
-    "is every cost from -100,000 to 100,000?",
+    "is every cost from -100,000 to 100,000, or 200,000 where the choice is closed?",
     "do the next posts of each choice rise strictly and lie within the next stage?",
     "is every weight from 1 to D, and does each choice's sum to at most D?",
-    "is D^H x (H + 1) x (largest cost without its sign) at most 4 x 10^18?",
+    "is D^H x (H + 1) x (largest cost of an open choice without its sign) at most 4 x 10^18?",
     "is K from 1 to 64?",
     "has the lent array of costs K places?",
     "has the lent array of plans K x S bytes?",
@@ -60,6 +63,7 @@ pub const QUESTIONS: [&str; 27] = [
     "has each state 1 to 8 choices, is every r at least 1, do all lines fit, are exactly L used, do the weights of each choice add to D, \
      has each closing line its 0, and is every reward from -100,000 to 100,000?",
     "does the lent array hold the book?",
+    "has the book a plan?",
 ];
 
 mod c {
@@ -101,7 +105,7 @@ mod c {
 pub struct Refused(NonZeroU32);
 
 impl Refused {
-    /// From 1 to 27.
+    /// From 1 to 28.
     pub fn number(self) -> u32 {
         self.0.get()
     }
@@ -165,21 +169,21 @@ pub fn power(d: usize, e: usize) -> u64 {
     unsafe { c::kbest_power(d, e) }
 }
 
-/// The cost of one plan: questions 1 to 13, then 17.
+/// The cost of one plan: questions 1 to 13, then 17. In a book that has no plan every slice gets 17.
 pub fn value(book: &[i32], plan: &[u8]) -> Result<i64, Refused> {
     let mut cost = 0;
     let no = unsafe { c::kbest_value(book.as_ptr(), book.len(), plan.as_ptr(), plan.len(), &mut cost) };
     answer(no, cost)
 }
 
-/// The least cost of all plans: questions 1 to 13.
+/// The least cost of all plans: questions 1 to 13, then 28.
 pub fn least(book: &[i32]) -> Result<i64, Refused> {
     let mut cost = 0;
     let no = unsafe { c::kbest_least(book.as_ptr(), book.len(), &mut cost) };
     answer(no, cost)
 }
 
-/// Lists the k best plans in the two slices and gives how many there are: questions 1 to 16. Plan j fills the S bytes from j × S.
+/// Lists the k best plans in the two slices and gives how many there are: questions 1 to 14, then 28, 15 and 16. Plan j fills the S bytes from j × S.
 pub fn rank(book: &[i32], k: usize, costs: &mut [i64], plans: &mut [u8]) -> Result<usize, Refused> {
     let mut listed = 0;
     let no = unsafe {
@@ -197,14 +201,14 @@ pub fn rank(book: &[i32], k: usize, costs: &mut [i64], plans: &mut [u8]) -> Resu
     answer(no, listed)
 }
 
-/// Writes the record of a book and k to the front of the slice and gives its length: questions 1 to 14, then 18.
+/// Writes the record of a book and k to the front of the slice and gives its length: questions 1 to 14, then 28 and 18.
 pub fn write(book: &[i32], k: usize, record: &mut [u8]) -> Result<usize, Refused> {
     let mut length = 0;
     let no = unsafe { c::kbest_write(book.as_ptr(), book.len(), k, record.as_mut_ptr(), record.len(), &mut length) };
     answer(no, length)
 }
 
-/// Accepts a record: question 19, then 1 to 14 of what it carries, 20 and 21.
+/// Accepts a record: question 19, then 1 to 14 and 28 of what it carries, 20 and 21.
 pub fn accept(record: &[u8]) -> Result<Accepted, Refused> {
     let (mut posts, mut listed) = (0, 0);
     let no = unsafe { c::kbest_accept(record.as_ptr(), record.len(), &mut posts, &mut listed) };

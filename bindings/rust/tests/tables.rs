@@ -8,6 +8,7 @@ fn main() {
     println!("most of tables {TABLE_MOST} {TABLE_BOOK_MOST}");
     println!("riders {RIDERS}");
     println!("not reached {NOT_REACHED}");
+    println!("closed {CLOSED}");
     for (i, question) in QUESTIONS.iter().enumerate() {
         println!("refused {}: {question}", i + 1);
     }
