@@ -7,6 +7,8 @@ const POSTS: usize = 64;
 const CHOICES: usize = 8;
 const PLANS: usize = 64;
 const NOT_REACHED: u8 = 255;
+/// The cost that marks a choice as closed.
+const CLOSED: i32 = 200_000;
 
 /// The columns of a book whose questions 1 to 7 are passed.
 struct Book<'a> {
@@ -72,10 +74,10 @@ impl<'a> Book<'a> {
                         return 9;
                     }
                     let cost = self.right[line];
-                    if !(-100_000..=100_000).contains(&cost) {
-                        lowest = 10;
-                    } else {
+                    if amount_allowed(&cost) {
                         largest = largest.max(cost.unsigned_abs());
+                    } else if cost != CLOSED {
+                        lowest = 10;
                     }
                     let no = self.lines_number(line + 1, end, next_size);
                     if no != 0 && no < lowest {
@@ -154,6 +156,10 @@ struct Solved {
     /// the best choice but one, where there is one
     second: [u8; POSTS],
     least: [i64; POSTS],
+    /// the choices that no plan takes, as bits: they are closed or lead to a dead end
+    shut: [u8; POSTS],
+    /// the dead ends, as bits: the posts with every choice shut
+    dead: u64,
 }
 
 fn first_best(costs: &[i64], barred: u8) -> u8 {
@@ -176,6 +182,8 @@ impl Solved {
             best: [0; POSTS],
             second: [0; POSTS],
             least: [0; POSTS],
+            shut: [0; POSTS],
+            dead: 0,
         };
         let (mut line, mut post, mut end) = (0, 0, 0);
         for &size in book.sizes {
@@ -203,8 +211,13 @@ impl Solved {
     fn solve_post(&mut self, book: &Book, post: usize, scale: i64) {
         let count = book.counts[post] as usize;
         let base = self.base[post] as usize;
+        let mut shut = 0;
         for c in 0..count {
             let line = self.lines[post][c] as usize;
+            if book.right[line] == CLOSED {
+                shut |= 1 << c; // its cost times the scale may not fit
+                continue;
+            }
             let (from, to) = (line + 1, line + 1 + book.left[line] as usize);
             let (mut cost, mut nexts) = (scale * book.right[line] as i64, 0);
             for (&next, &weight) in book.left[from..to].iter().zip(&book.right[from..to]) {
@@ -214,12 +227,22 @@ impl Solved {
             }
             self.costs[post][c] = cost;
             self.nexts[post][c] = nexts;
+            shut |= ((nexts & self.dead != 0) as u8) << c;
         }
+        self.shut[post] = shut;
         let costs = &self.costs[post][..count];
-        let best = first_best(costs, 0);
+        let best = first_best(costs, shut);
         self.best[post] = best;
-        self.second[post] = first_best(costs, 1 << best);
+        if best == NOT_REACHED {
+            self.dead |= 1 << post;
+            return;
+        }
+        self.second[post] = first_best(costs, shut | 1 << best);
         self.least[post] = costs[best as usize];
+    }
+
+    fn has_plan(&self) -> bool {
+        self.dead & 1 == 0
     }
 
     /// The plan that keeps to `plan` before `post`, takes choice c there and best choices after it.
@@ -273,6 +296,9 @@ impl Book<'_> {
                 for c in 0..self.counts[post] {
                     let next = line + 1 + self.left[line] as usize;
                     if c == plan[post] as i32 {
+                        if self.right[line] == CLOSED {
+                            return None;
+                        }
                         lines[post] = line;
                         reached = self.left[line + 1..next].iter().fold(reached, |bits, &q| bits | 1 << (end + q as usize));
                     }
@@ -306,9 +332,15 @@ pub fn value(words: &[i32], plan: &[u8]) -> (u32, i64) {
 }
 
 pub fn least(words: &[i32]) -> (u32, i64) {
-    match checked(words) {
-        Ok(book) => (0, Solved::new(&book).least[0]),
-        Err(no) => (no, 0),
+    let book = match checked(words) {
+        Ok(book) => book,
+        Err(no) => return (no, 0),
+    };
+    let t = Solved::new(&book);
+    if t.has_plan() {
+        (0, t.least[0])
+    } else {
+        (28, 0)
     }
 }
 
@@ -369,9 +401,8 @@ impl Pool {
     }
 }
 
-/// The list of a checked book, to slices that hold it.
-fn list(book: &Book, k: usize, costs: &mut [i64], plans: &mut [u8]) -> usize {
-    let t = Solved::new(book);
+/// The list of a book that has a plan, to slices that hold it.
+fn list(book: &Book, t: &Solved, k: usize, costs: &mut [i64], plans: &mut [u8]) -> usize {
     let s = book.s;
     let mut pool = Pool::new();
     let mut row = [0; POSTS];
@@ -393,7 +424,7 @@ fn list(book: &Book, k: usize, costs: &mut [i64], plans: &mut [u8]) -> usize {
                 continue;
             }
             let mask = if p == split { barred | 1 << f } else { 1 << f };
-            let c = if p == split { first_best(&t.costs[p][..book.counts[p] as usize], mask) } else { t.second[p] };
+            let c = if p == split { first_best(&t.costs[p][..book.counts[p] as usize], mask | t.shut[p]) } else { t.second[p] };
             if c == NOT_REACHED {
                 continue;
             }
@@ -422,13 +453,17 @@ pub fn rank(words: &[i32], k: usize, costs: &mut [i64], plans: &mut [u8]) -> (u3
         Ok(book) => book,
         Err(no) => return (no, 0),
     };
+    let t = Solved::new(&book);
+    if !t.has_plan() {
+        return (28, 0);
+    }
     if costs.len() < k {
         return (15, 0);
     }
     if plans.len() < k * book.s {
         return (16, 0);
     }
-    (0, list(&book, k, costs, plans))
+    (0, list(&book, &t, k, costs, plans))
 }
 
 pub fn write(words: &[i32], k: usize, record: &mut [u8]) -> (u32, usize) {
@@ -436,8 +471,12 @@ pub fn write(words: &[i32], k: usize, record: &mut [u8]) -> (u32, usize) {
         Ok(book) => book,
         Err(no) => return (no, 0),
     };
+    let t = Solved::new(&book);
+    if !t.has_plan() {
+        return (28, 0);
+    }
     let (mut costs, mut plans) = ([0; PLANS], [0; PLANS * POSTS]);
-    let n = list(&book, k, &mut costs, &mut plans);
+    let n = list(&book, &t, k, &mut costs, &mut plans);
     let body = 4 * words.len();
     let length = 12 + body + 8 * n + n * book.s;
     if record.len() < length {
@@ -473,12 +512,16 @@ fn accepted(record: &[u8]) -> Result<(usize, usize), u32> {
         *word = i32::from_le_bytes([bytes[0], bytes[1], bytes[2], bytes[3]]);
     }
     let book = asked(&room[..w], most)?;
+    let t = Solved::new(&book);
+    if !t.has_plan() {
+        return Err(28);
+    }
     let tail = &record[12 + 4 * w..];
     if k < 1 || k > most || tail.len() != 8 * k + k * book.s {
         return Err(20);
     }
     let (mut costs, mut plans) = ([0; PLANS], [0; PLANS * POSTS]);
-    let n = list(&book, most, &mut costs, &mut plans);
+    let n = list(&book, &t, most, &mut costs, &mut plans);
     let same = n == k
         && tail[..8 * k].chunks_exact(8).zip(&costs).all(|(bytes, cost)| bytes == cost.to_le_bytes())
         && tail[8 * k..] == plans[..k * book.s];

@@ -24,7 +24,7 @@ impl Random {
 }
 
 /// What a book of random costs and weights looks like. `transitions(i)` is how many next posts the i-th choice has. Of 100 choices before the last stage,
-/// `stops` leave a part of the scale missing; these have as many next posts or fewer.
+/// `stops` leave a part of the scale missing; these have as many next posts or fewer. `closed` of 100 are closed.
 struct Shape<'a> {
     scale: i32,
     sizes: &'a [i32],
@@ -32,6 +32,7 @@ struct Shape<'a> {
     costs: (i32, i32),
     transitions: &'a dyn Fn(usize) -> i32,
     stops: i32,
+    closed: i32,
 }
 
 fn random_book(rng: &mut Random, shape: &Shape) -> Vec<i32> {
@@ -46,7 +47,7 @@ fn random_book(rng: &mut Random, shape: &Shape) -> Vec<i32> {
                 let (r, sum) = if stage == last { (0, 0) } else { lines_of(rng, shape, (shape.transitions)(made).min(shape.sizes[stage + 1])) };
                 made += 1;
                 left.push(r);
-                right.push(rng.from(shape.costs.0, shape.costs.1));
+                right.push(cost_of(rng, shape, stage < last));
                 if r > 0 {
                     left.extend(some_of(rng, shape.sizes[stage + 1], r));
                     right.extend(parts_of(rng, sum, r));
@@ -69,6 +70,16 @@ fn lines_of(rng: &mut Random, shape: &Shape, most: i32) -> (i32, i32) {
     }
     let r = rng.from(0, most.min(shape.scale - 1));
     (r, rng.from(r, shape.scale - 1))
+}
+
+/// A cost, or the mark of a closed choice.
+fn cost_of(rng: &mut Random, shape: &Shape, may_close: bool) -> i32 {
+    let cost = rng.from(shape.costs.0, shape.costs.1);
+    if may_close && shape.closed > 0 && rng.from(1, 100) <= shape.closed {
+        kbest::CLOSED
+    } else {
+        cost
+    }
 }
 
 /// r numbers below n that rise strictly.
@@ -96,16 +107,24 @@ const BOOK_C: [i32; 32] = [
     1, 2, 11, 1, 2, 1, 2, 2, 1, 1, 1, 0, 1, 1, 1, 0, 1, 0, 1, 0, 0, 5, 1, 3, 1, 1, 1, 4, 1, 2, 1, 0,
 ];
 
-fn typical(rng: &mut Random, stops: i32) -> Vec<i32> {
-    random_book(rng, &Shape { scale: 100, sizes: &[1, 6, 6, 6, 6], choices: 3, costs: (-500, 3000), transitions: &|_| 3, stops })
+fn typical(rng: &mut Random, stops: i32, closed: i32) -> Vec<i32> {
+    random_book(rng, &Shape { scale: 100, sizes: &[1, 6, 6, 6, 6], choices: 3, costs: (-500, 3000), transitions: &|_| 3, stops, closed })
 }
 
 const LARGEST: [i32; 9] = [1, 7, 8, 8, 8, 8, 8, 8, 8];
 
 /// 64 posts, H = 8, 2,048 lines: every other choice has 6 next posts.
-fn largest(rng: &mut Random, costs: (i32, i32)) -> Vec<i32> {
+fn largest(rng: &mut Random, costs: (i32, i32), closed: i32) -> Vec<i32> {
     let transitions = |i: usize| if i % 2 == 0 { 6 } else { 1 + (i < 48) as i32 };
-    random_book(rng, &Shape { scale: 10, sizes: &LARGEST, choices: 8, costs, transitions: &transitions, stops: 0 })
+    random_book(rng, &Shape { scale: 10, sizes: &LARGEST, choices: 8, costs, transitions: &transitions, stops: 0, closed })
+}
+
+/// The book with every choice of the last stage closed: it has no plan unless a tour can stop surely.
+fn closed_at_last(mut book: Vec<i32>) -> Vec<i32> {
+    let closing = book[3 + book[1] as usize] as usize;
+    let from = book.len() - closing;
+    book[from..].fill(kbest::CLOSED);
+    book
 }
 
 /// What a planners' table of random rewards and weights looks like. `counts` has the choices of each state, `transitions(i)` is how many next states the
@@ -198,11 +217,42 @@ fn assert_equal(book: &[i32]) {
             if let Some(byte) = at.and_then(|i| record.get_mut(i)) {
                 *byte ^= 1;
             }
-            let accepted = kbest::accept(&record).map_or_else(|r| (r.number(), 0, 0), |x| (0, x.posts, x.listed));
-            assert_eq!(accepted, baseline::accept(&record), "accept for {book:?}");
-            assert!(no != 0 || at.is_some() || accepted.0 == 0);
+            let accepted = assert_equal_accept(&record);
+            assert!(no != 0 || at.is_some() || accepted == 0);
+        }
+        if no == 28 {
+            assert_equal_without_plan(book, k);
         }
     }
+}
+
+/// The number that a record gets.
+fn assert_equal_accept(record: &[u8]) -> u32 {
+    let accepted = kbest::accept(record).map_or_else(|r| (r.number(), 0, 0), |x| (0, x.posts, x.listed));
+    assert_eq!(accepted, baseline::accept(record), "accept of {record:?}");
+    accepted.0
+}
+
+/// The bytes of a record with any K and k, and zeros for the costs and plans.
+fn as_record(book: &[i32], most: usize, listed: usize) -> Vec<u8> {
+    let mut record: Vec<u8> = [book.len(), most, listed].iter().flat_map(|&figure| (figure as u32).to_le_bytes()).collect();
+    record.extend(book.iter().flat_map(|word| word.to_le_bytes()));
+    record.resize(record.len() + listed * (8 + posts(book)), 0);
+    record
+}
+
+/// A book that has no plan: records with several k, slices that are short, and a plan.
+fn assert_equal_without_plan(book: &[i32], most: usize) {
+    for listed in [0, 1, most, most + 1] {
+        assert_eq!(assert_equal_accept(&as_record(book, most, listed)), 28);
+    }
+    for (costs, plans) in [(0, 4096), (64, 0), (64, 4096)] {
+        let (mut a, mut b) = (Room::new(), Room::new());
+        let ranked = number(kbest::rank(book, most, &mut a.costs[..costs], &mut a.plans[..plans]), 0);
+        assert_eq!(ranked, baseline::rank(book, most, &mut b.costs[..costs], &mut b.plans[..plans]), "rank of {book:?}");
+    }
+    let plan = vec![0; posts(book)];
+    assert_eq!(number(kbest::value(book, &plan), 0), baseline::value(book, &plan), "value of {plan:?} in {book:?}");
 }
 
 /// S of an accepted book.
@@ -225,16 +275,17 @@ fn assert_equal_values(book: &[i32], plans: &mut [u8], listed: usize) {
     }
 }
 
-/// How many books were compared; the choices of half of them may stop.
-fn assert_small_books(rng: &mut Random) -> usize {
-    let mut compared = 0;
+/// How many books were compared; the choices of half of them may stop, and `closed` of 100 choices are closed. Then some have a plan and some have none.
+fn assert_small_books(rng: &mut Random, closed: i32) -> usize {
+    let (mut compared, mut without_plan) = (0, 0);
     for round in 0..800 {
         let stops = if round % 2 == 0 { 0 } else { 50 };
         let sizes: Vec<i32> = (0..rng.from(2, 4)).map(|n| if n == 0 { 1 } else { rng.from(1, 7) }).collect();
         let (scale, choices, most) = (rng.from(1, 8), rng.from(1, 3), rng.from(1, 6));
-        let shape = Shape { scale, sizes: &sizes, choices, costs: (0, rng.from(0, 9)), transitions: &|i| 1 + (i as i32 % most), stops };
+        let shape = Shape { scale, sizes: &sizes, choices, costs: (0, rng.from(0, 9)), transitions: &|i| 1 + (i as i32 % most), stops, closed };
         let mut book = random_book(rng, &shape);
         assert_eq!(kbest::check(&book), Ok(()), "a book that is not spoiled is accepted: {book:?}");
+        without_plan += kbest::least(&book).is_err() as i32;
         assert_equal(&book);
         let at = rng.from(0, book.len() as i32 - 1) as usize;
         book[at] += rng.from(-2, 2);
@@ -246,6 +297,7 @@ fn assert_small_books(rng: &mut Random) -> usize {
             compared += 1;
         }
     }
+    assert!(if closed == 0 { without_plan == 0 } else { (100..700).contains(&without_plan) }, "{without_plan} books have no plan");
     compared
 }
 
@@ -439,6 +491,18 @@ fn ratios(name: &str, book: &[i32]) {
     );
 }
 
+/// The same for the calls that refuse a book without a plan. The record is one that says it lists a plan.
+fn refusal_ratios(name: &str, book: &[i32]) {
+    let (mut a, mut b) = (Room::new(), Room::new());
+    let record = as_record(book, 64, 1);
+    assert_eq!((number(kbest::least(book), 0).0, assert_equal_accept(&record)), (28, 28));
+    let least = ratio(|| kbest::least(black_box(book)), || baseline::least(black_box(book)));
+    let rank = ratio(|| rank_library(book, 64, &mut a), || rank_rust(book, 64, &mut b));
+    let write = ratio(|| write_library(book, &mut a), || write_rust(book, &mut b));
+    let accept = ratio(|| kbest::accept(black_box(&record)), || baseline::accept(black_box(&record)));
+    println!("{name:28} {least:7.2} {rank:7.2} {write:8.2} {accept:8.2}");
+}
+
 /// The same for calls at a desk where rider 3 holds rank 5. Each leaves the desk as it is: a rank asked for again, one that another rider holds, a
 /// rider who holds none, whose hold is cancelled and who commits; and a look-up.
 fn desk_ratios(name: &str, record: &[u8]) {
@@ -508,7 +572,7 @@ fn books_by_lines(rng: &mut Random) -> Vec<(usize, Vec<i32>)> {
     shapes
         .iter()
         .map(|&(choices, r)| {
-            let shape = Shape { scale: 10, sizes: &LARGEST, choices, costs: (-500, 3000), transitions: &|_| r, stops: 0 };
+            let shape = Shape { scale: 10, sizes: &LARGEST, choices, costs: (-500, 3000), transitions: &|_| r, stops: 0, closed: 0 };
             let book = random_book(rng, &shape);
             (book[2] as usize, book)
         })
@@ -539,11 +603,14 @@ fn main() {
     let books = [
         ("book A", BOOK_A.to_vec()),
         ("book C", BOOK_C.to_vec()),
-        ("typical", typical(&mut rng, 0)),
-        ("largest", largest(&mut rng, (-500, 3000))),
-        ("ties (largest)", largest(&mut rng, (0, 0))),
-        ("stops (typical)", typical(&mut Random(362436069), 30)), // its best plan reaches most posts
+        ("typical", typical(&mut rng, 0, 0)),
+        ("largest", largest(&mut rng, (-500, 3000), 0)),
+        ("ties (largest)", largest(&mut rng, (0, 0), 0)),
+        ("stops (typical)", typical(&mut Random(362436069), 30, 0)), // its best plan reaches most posts
+        ("closed (typical)", typical(&mut Random(123456789), 0, 40)), // a dead end, and still more than 64 plans
+        ("closed (largest)", largest(&mut Random(161803398), (-500, 3000), 70)), // dead ends at five posts, and still more than 64 plans
     ];
+    let refused = [("typical", closed_at_last(books[2].1.clone())), ("largest", closed_at_last(books[3].1.clone()))];
     let words: Vec<String> = std::env::args().skip(1).collect();
     if !words.is_empty() {
         return only(&words, &books);
@@ -554,19 +621,29 @@ fn main() {
         assert_equal(book);
     }
     let record = record_of(&books[2].1);
-    let (small, calls) = (assert_small_books(&mut rng), assert_equal_desks(&mut rng, &record));
+    for (_, book) in &refused {
+        assert_equal(book);
+    }
+    let (small, calls) = (assert_small_books(&mut rng, 0), assert_equal_desks(&mut rng, &record));
+    let closed = assert_small_books(&mut Random(521288629), 35);
     let tables = [("small", TABLE.to_vec()), ("typical", typical_table(&mut rng)), ("largest", largest_table(&mut rng))];
     for (_, table) in &tables {
         assert_eq!(assert_equal_books(table, kbest::BOOK_MOST).0, 0, "a timed table is accepted");
     }
     let (random, powers) = (assert_random_tables(&mut rng), assert_equal_powers());
-    println!("equal results on the timed books and tables, on {small} small books, in {calls} calls at a desk, on {random} random tables");
-    println!("and for {powers} powers\n");
+    println!("equal results on the timed books and tables, on {small} small books and {closed} with closed choices, in {calls} calls at a desk,");
+    println!("on {random} random tables and for {powers} powers\n");
 
     println!("library time / Rust time");
     println!("{:28} {:>7} {:>7} {:>7} {:>8} {:>8} {:>8} {:>8} {:>8}", "", "check", "value", "least", "rank 1", "rank 8", "rank 64", "write 64", "accept");
     for (name, book) in &books {
         ratios(&format!("{name}, {} lines", book[2]), book);
+    }
+
+    println!("\nbooks without a plan, library time / Rust time");
+    println!("{:28} {:>7} {:>7} {:>8} {:>8}", "", "least", "rank 64", "write 64", "accept");
+    for (name, book) in &refused {
+        refusal_ratios(&format!("{name}, {} lines", book[2]), book);
     }
 
     println!("\nat a desk, library time / Rust time");
