@@ -6,7 +6,6 @@ use mathlib.Core.Logic.{_⊎_, inl, inr}
 use mathlib.Core.List.{List, [], _∷_}
 use Prim.Native.Nat.{ℕ, zero, suc, _<_}
 use native.Mathlib.Omega.{arith}
-use lib.Dec.{T-not}
 use lib.ListN.{length, getD}
 use Rattle.model.specs.Lists.{isIn}
 use Rattle.model.specs.Model.{Words, stateCount, action}
@@ -14,12 +13,12 @@ use Rattle.model.specs.Questions.{bookNumber}
 use Rattle.model.specs.Policy.{Policy, allowed, isPolicy}
 use Rattle.model.specs.Path.{byteAt}
 use Rattle.model.specs.Recursion.{feasible}
-use Rattle.laws.specs.Members.{In, in-one, isIn-in, in-isIn, true-T, false-T}
+use Rattle.laws.specs.Members.{In, in-one, true-T}
 use Rattle.laws.specs.Policies.{reads}
 use Rattle.laws.specs.Walks.{policy-allowed}
 use Rattle.accepted.specs.Options.{Option, Feasible}
 use Rattle.accepted.specs.Shape.{shape, policy-feasible}
-use Rattle.accepted.specs.Demands.{reached, PolicyBytes, policy-bytes}
+use Rattle.accepted.specs.Demands.{reached, PolicyBytes, policy-bytes, policy-takes}
 
 -- a byte that is there is read whatever stands for a missing one
 pub byte-is : (bs : List ℕ) (p d e : ℕ) → p < length bs → getD bs p d ≡ getD bs p e
@@ -35,11 +34,7 @@ module _ (ws : Words) (ok : bookNumber ws ≡ 0) (bs : Policy) (is : isPolicy ws
   policy-long = bytes .long
 
   pub byte-cases : (p : ℕ) → p < stateCount ws → (byteAt bs p ≡ 255) ⊎ Option ws p (byteAt bs p)
-  byte-cases p state = go (isIn p (reached ws bs)) refl
-    where
-      go : (b : Bool) → isIn p (reached ws bs) ≡ b → (byteAt bs p ≡ 255) ⊎ Option ws p (byteAt bs p)
-      go true e = inr (bytes .at-reached p state (isIn-in p (reached ws bs) (true-T e)))
-      go false e = inl (bytes .at-other p state (λ i. T-not (isIn p (reached ws bs)) (false-T e) (in-isIn p (reached ws bs) i)))
+  byte-cases p state = policy-takes ws ok bs (true-T is) p
 
   -- and each action that it takes is one from which a policy goes on
   pub feasible-cases : (p : ℕ) → p < stateCount ws → (byteAt bs p ≡ 255) ⊎ Feasible ws p (byteAt bs p)

@@ -2,7 +2,7 @@
 -- that it renders.
 -- Assumes nothing.
 use mathlib.Core.Path.{_≡_, refl, sym, ap, _∙_, subst}
-use mathlib.Core.Bool.{Bool, true, false, not}
+use mathlib.Core.Bool.{Bool, true, false}
 use mathlib.Core.Logic.{_⊎_, inl, inr, _↔_}
 use mathlib.Core.List.{List, [], _∷_}
 use mathlib.Core.Option.{none, some}
@@ -27,17 +27,17 @@ use Rattle.model.specs.Order.{lower, comesBefore, ranking, rankingCosts}
 use Rattle.model.specs.Calls.{leastNumber, leastCost}
 use Rattle.laws.specs.Int.{≤ℤ-antisym}
 use Rattle.laws.specs.Members.{T-true, true-T, false-T, In, in-one, isIn-in, in-isIn, Apart, at-nexts}
-use Rattle.laws.specs.Kept.{some-in, in-some, none-in}
+use Rattle.laws.specs.Kept.{none-in}
 use Rattle.laws.specs.Sorting.{Strict, Total, apart-take, at-in, apart-sorted, sorted-length, listed as list-entries}
 use Rattle.laws.specs.Paths.{endsAt, weight-paths, cost-paths, positive-paths, path-ends}
-use Rattle.laws.specs.Bounds.{to-go-bound, through-bound}
+use Rattle.laws.specs.Bounds.{to-go-bound, through-bound, least-bound}
 use Rattle.laws.specs.Policies.{IsPolicy, policy-length, policy-in, in-policy, policies-apart, reachedFrom, reached-mono, reads, reached-closed}
 use Rattle.laws.specs.Policies.{FirstDifference, differ}
 use Rattle.laws.specs.Order.{Low, Before, lower-is, before-is, before-cost, strict, total}
 use Rattle.laws.specs.First.{costFrom0, firstPolicy, is-policy, first-cost, cheapest, comes-first}
 use Rattle.accepted.specs.Facts.{accepted}
 use Rattle.accepted.specs.Options.{Option, Feasible, Alive, options-rising, option-open, option-small}
-use Rattle.accepted.specs.Shape.{policy-is, shape, lists, policy-feasible, has-alive, togo-start, weights-bound, cost-bound, cost-feasible}
+use Rattle.accepted.specs.Shape.{policy-is, has-policy, shape, lists, policy-feasible, has-alive, togo-start, weights-bound, cost-bound, cost-feasible}
 use Rattle.questions.specs.FirstNo.{passes, none as none-left}
 use Rattle.laws.specs.Entries.{in-at, some-at, map-at, take-one, count-most, count-none, by-rank}
 use Rattle.laws.specs.Walks.{policy-allowed, allowed-policy, reached-from, low-at}
@@ -81,10 +81,9 @@ module _ (ws : Words) (ok : bookNumber ws ≡ 0) where
 
   -- 28: "exactly if the book has no plan"
   pub some-policy : (hasPolicy ws ≡ true) ↔ ((bs : Policy) × T (isPolicy ws bs))
-  unfolding hasPolicy
   some-policy = (
-    λ e. let m = some-in (policies ws) (not-true (isEmpty (policies ws)) e) in (m .0, policies-are (m .0) .0 (m .1)),
-    λ b. ap not (in-some (policies ws) (b .0) (policies-are (b .0) .1 (b .1))),
+    λ e. let b = has-policy ws .0 e in (b .0, policy-is ws (b .0) .1 (b .1)),
+    λ b. has-policy ws .1 (b .0, policy-is ws (b .0) .0 (b .1)),
   )
 
   pub no-policy : (hasPolicy ws ≡ false) ↔ ((bs : Policy) → T (isPolicy ws bs) → ⊥)
@@ -510,7 +509,7 @@ module _ (ws : Words) (ok : bookNumber ws ≡ 0) where
       (accepted ws ok .product-bounded)
 
   -- what a policy takes at any state is an option, or none
-  policy-takes : (bs : Policy) → T (isPolicy ws bs) → (q : ℕ) → (byteAt bs q ≡ 255) ⊎ Option ws q (byteAt bs q)
+  pub policy-takes : (bs : Policy) → T (isPolicy ws bs) → (q : ℕ) → (byteAt bs q ≡ 255) ⊎ Option ws q (byteAt bs q)
   policy-takes bs t q = go (decLt q (stateCount ws)) (isIn q (reached ws bs)) refl
     where
       is : PolicyBytes ws bs
@@ -531,6 +530,9 @@ module _ (ws : Words) (ok : bookNumber ws ≡ 0) where
       → natAbs (through (scale ws) (action ws) (feasible ws) m p c) ≤ scale ws ^ m * (m + 1) * largestCost ws
   through-most = through-bound (scale ws) (largestCost ws) (action ws) (feasible ws) (cost-feasible ws ok) (weights-bound ws ok)
 
+  pub least-most : (m p : ℕ) → natAbs (leastToGo (scale ws) (action ws) (feasible ws) m p) ≤ scale ws ^ m * (m + 1) * largestCost ws
+  least-most = least-bound (scale ws) (largestCost ws) (action ws) (feasible ws) (cost-feasible ws ok) (weights-bound ws ok)
+
   -- "Is D^H × (H + 1) × (largest cost without its sign) at most 4 × 10^18?": no figure of the recursions is larger, of the actions of a policy or of
   -- those from which one goes on, with at most H stages still to come, and no policy's cost is
   pub to-go-fits : (bs : Policy) → T (isPolicy ws bs) → (m p : ℕ) → m ≤ horizon ws → natAbs (costToGo (scale ws) (taken ws bs) m p) ≤ 4000000000000000000
@@ -539,6 +541,9 @@ module _ (ws : Words) (ok : bookNumber ws ≡ 0) where
   pub through-fits : (m p c : ℕ) → (c ≡ 255) ⊎ Feasible ws p c → m ≤ horizon ws
       → natAbs (through (scale ws) (action ws) (feasible ws) m p c) ≤ 4000000000000000000
   through-fits m p c t h = le-trans (through-most m p c t) (most-fits m h)
+
+  pub least-fits : (m p : ℕ) → m ≤ horizon ws → natAbs (leastToGo (scale ws) (action ws) (feasible ws) m p) ≤ 4000000000000000000
+  least-fits m p h = le-trans (least-most m p) (most-fits m h)
 
   pub cost-fits : (bs : Policy) → T (isPolicy ws bs) → natAbs (policyCost ws bs) ≤ 4000000000000000000
   cost-fits bs t = rw (cost-recursion bs t) (to-go-fits bs t (horizon ws) 0 (omega arith))

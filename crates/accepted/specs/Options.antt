@@ -2,15 +2,15 @@
 -- `feasible` alone say which actions they are.
 -- Assumes nothing.
 use mathlib.Core.Path.{_≡_, refl}
-use mathlib.Core.Bool.{Bool, true, false, not}
+use mathlib.Core.Bool.{Bool, false, not}
 use Prim.Native.Nat.{ℕ, _<_}
 use native.Mathlib.Omega.{arith}
-use lib.Dec.{T}
+use borrow.Author.Tests.{not-true}
 use Rattle.model.specs.Lists.{keep, upFrom}
 use Rattle.model.specs.Model.{Words, stateCount, togo, actionCount, action, closed, options}
 use Rattle.model.specs.Questions.{bookNumber}
 use Rattle.model.specs.Recursion.{feasible}
-use Rattle.laws.specs.Members.{In, Rising, false-T, upFrom-in, in-upFrom, upFrom-rising}
+use Rattle.laws.specs.Members.{In, Rising, T-true, false-T, upFrom-in, in-upFrom, upFrom-rising}
 use Rattle.laws.specs.Kept.{keep-in, in-keep, keep-rising}
 use Rattle.laws.specs.Feasible.{feasible-option, feasible-rising}
 use Rattle.accepted.specs.Facts.{accepted}
@@ -47,11 +47,7 @@ module _ (ws : Words) (p : ℕ) where
 
   pub option-open : (c : ℕ) → Option ws p c → closed (action ws p c .cost) ≡ false
   option-open c i =
-      not-closed (closed (action ws p c .cost)) (keep-in isOpen c (upFrom 0 (actionCount ws p)) (rw options-are at i) .1)
-    where
-      not-closed : (b : Bool) → T (not b) → b ≡ false
-      not-closed true t = absurd t
-      not-closed false t = refl
+      not-true (closed (action ws p c .cost)) (T-true (isOpen c) (keep-in isOpen c (upFrom 0 (actionCount ws p)) (rw options-are at i) .1))
 
   pub open-option : (c : ℕ) → c < actionCount ws p → closed (action ws p c .cost) ≡ false → Option ws p c
   open-option c l e =

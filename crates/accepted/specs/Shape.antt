@@ -39,6 +39,15 @@ module _ (ws : Words) where
   unfolding isPolicy
   policy-is bs = fits-is (action ws) (options ws) (stateCount ws) 0 (0 ∷ []) bs
 
+  -- 28: the list of policies is not empty exactly if there is one
+  pub has-policy : (hasPolicy ws ≡ true) ↔ ((bs : Policy) × IsPolicy (action ws) (options ws) (stateCount ws) 0 (0 ∷ []) bs)
+  unfolding hasPolicy policies
+  has-policy = (
+    λ e. let m = some-in (policies ws) (not-true (isEmpty (policies ws)) e) in
+        (m .0, in-policy (action ws) (options ws) (stateCount ws) 0 (0 ∷ []) (m .0) (m .1)),
+    λ b. ap not (in-some (policies ws) (b .0) (policy-in (action ws) (options ws) (stateCount ws) 0 (0 ∷ []) (b .0) (b .1))),
+  )
+
   -- ---- an action and its transitions, as read
 
   -- what holds of no action, and of action c of state p as it is read where the state has it, holds of `action ws p c`
@@ -264,18 +273,16 @@ module _ (ws : Words) (ok : bookNumber ws ≡ 0) where
 
   -- 28: the book has a policy exactly if one goes on from state 0
   pub has-alive : hasPolicy ws ≡ true → Alive ws 0
-  unfolding hasPolicy policies
   has-alive e =
-      let m = some-in (policies ws) (not-true (isEmpty (policies ws)) e) in
       let all : stateCount ws - 0 ≡ stateCount ws = omega arith in
-      alive-is 0 some-state .1 (m .0, rw all (in-policy (action ws) (options ws) (stateCount ws) 0 (0 ∷ []) (m .0) (m .1)))
+      let b = has-policy ws .0 e in
+      alive-is 0 some-state .1 (b .0, rw all (b .1))
 
   pub alive-has : Alive ws 0 → hasPolicy ws ≡ true
-  unfolding hasPolicy policies
   alive-has a =
-      let b = alive-is 0 some-state .0 a in
       let all : stateCount ws - 0 ≡ stateCount ws = omega arith in
-      ap not (in-some (policies ws) (b .0) (policy-in (action ws) (options ws) (stateCount ws) 0 (0 ∷ []) (b .0) (rw all at (b .1))))
+      let b = alive-is 0 some-state .0 a in
+      has-policy ws .1 (b .0, rw all at (b .1))
 
   pub has-is : hasPolicy ws ≡ not (isEmpty (feasible ws 0))
   has-is =

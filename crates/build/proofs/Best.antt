@@ -46,7 +46,7 @@ module _ (ws : Words) (p : ℕ) where
   pub best-option : Alive ws p → Feasible ws p (bestAt ws p)
   best-option a = best-in cost (feasible ws p) (a .some .0) (a .some .1)
 
--- a list of actions whose first best is none is empty, and so is what is left of it
+-- a list of actions whose first best is none is empty
 pub none-best : (f : ℕ → ℤ) (xs : List ℕ) → Every (λ c. c < 8) xs → bestOf f xs ≡ 255 → xs ≡ []
 none-best f [] h e = refl
 none-best f (x ∷ xs) h e = absurd (omega (arith, e, every-in (λ c. c < 8) (x ∷ xs) h (bestOf f (x ∷ xs)) (best-in f (x ∷ xs) x (inl refl))))

@@ -2,7 +2,7 @@
 -- Assumes nothing.
 use mathlib.Core.Path.{_≡_, refl, sym, ap, ap₂, _∙_, subst}
 use mathlib.Core.Bool.{Bool, true, false, not, _&&_}
-use mathlib.Core.Logic.{_⊎_, inl, ⊎-elim}
+use mathlib.Core.Logic.{_⊎_, ⊎-elim}
 use mathlib.Core.List.{List, [], _∷_}
 use Prim.Native.Nat.{ℕ, _≤_, _<_}
 use native.Mathlib.Omega.{arith}
@@ -16,15 +16,16 @@ use Rattle.model.specs.Policy.{Policy}
 use Rattle.model.specs.Path.{byteAt}
 use Rattle.model.specs.Recursion.{bestOf, feasible}
 use Rattle.questions.specs.Ranges.{and-right}
-use Rattle.laws.specs.Members.{In, Every, every-in, in-every, isIn-in, in-isIn, true-T, false-T}
+use Rattle.laws.specs.Members.{In, Every, in-every, isIn-in, in-isIn, true-T, false-T}
 use Rattle.laws.specs.ToGo.{through-same}
 use Rattle.laws.specs.Policies.{reachedFrom}
 use Rattle.laws.specs.First.{first-byte}
-use Rattle.laws.specs.Best.{best-in, best-cases}
+use Rattle.laws.specs.Best.{best-cases}
 use Rattle.accepted.specs.Options.{Feasible, Alive, feasible-small}
 use Rattle.accepted.specs.Shape.{shape}
 use Rattle.accepted.specs.Demands.{reached, policy-bytes}
 use Rattle.build.specs.Best.{bestAt}
+use Rattle.build.proofs.Best.{none-best}
 use Rattle.splits.specs.Parts.{Reaches, reaches-is}
 use Rattle.stored.specs.Entry.{Entry}
 use Rattle.stored.specs.Lists.{left, left-feasible, listsOf, lists-after}
@@ -34,10 +35,6 @@ use Rattle.accepted.specs.Bytes.{feasible-cases, policy-long}
 -- a first best action tells whether a list has one
 best-some : (f : ℕ → ℤ) (xs : List ℕ) → (bestOf f xs ≡ 255 → ⊥) → In (bestOf f xs) xs
 best-some f xs h = ⊎-elim (λ e. absurd (h e)) (λ i. i) (best-cases f xs)
-
-best-none : (f : ℕ → ℤ) (xs : List ℕ) → Every (λ c. c < 8) xs → bestOf f xs ≡ 255 → xs ≡ []
-best-none f [] h e = refl
-best-none f (x ∷ xs) h e = absurd (omega (arith, e, every-in (λ c. c < 8) (x ∷ xs) h (bestOf f (x ∷ xs)) (best-in f (x ∷ xs) x (inl refl))))
 
 add-some : (xs : List ℕ) (c : ℕ) (k : Entry) → In c xs → addIf true xs k [] ≡ k ∷ []
 add-some [] c k i = absurd i
@@ -63,7 +60,7 @@ module _ (ws : Words) (ok : bookNumber ws ≡ 0) (e : Entry) (ri : Right ws e) (
       → addIf (splitsAt e p) (left ws p (maskAt e p)) (childEntry ws e p) [] ≡ []
   none-left f b =
       ap (λ (xs : List ℕ). addIf (splitsAt e p) xs (childEntry ws e p) [])
-      (best-none f (left ws p (maskAt e p)) small b)
+      (none-best f (left ws p (maskAt e p)) small b)
       ∙ add-none (splitsAt e p) (childEntry ws e p)
     where
       small : Every (λ c. c < 8) (left ws p (maskAt e p))

@@ -3,11 +3,11 @@
 use mathlib.Core.Path.{_≡_, refl, subst}
 use mathlib.Core.Logic.{inr}
 use mathlib.Core.List.{List, [], _∷_}
-use Prim.Native.Nat.{ℕ, zero, suc, _+_, _*_, _^_, _≤_, _<_}
+use Prim.Native.Nat.{ℕ, zero, suc, _+_, _*_, _^_, _≤_}
 use native.Mathlib.Nat.{pow-suc, le-trans, mul-le-mul-left, mul-le-mul-right}
 use native.Mathlib.Omega.{arith}
 use lib.IntN.{ℤ, natAbs}
-use Rattle.model.specs.Model.{Words, scale, stateCount, togo}
+use Rattle.model.specs.Model.{Words, scale, togo}
 use Rattle.model.specs.Model.{Transition, weightsOf, action}
 use Rattle.model.specs.Questions.{largestCost, bookNumber}
 use Rattle.laws.specs.Members.{AtNexts, every-both}

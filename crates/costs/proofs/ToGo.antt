@@ -14,13 +14,12 @@ use Rattle.model.specs.Model.{Words, Transition, scale, stateCount, togo, actio
 use Rattle.model.specs.Questions.{bookNumber}
 use Rattle.model.specs.Policy.{Policy, isPolicy}
 use Rattle.model.specs.Path.{byteAt, taken}
-use Rattle.model.specs.Recursion.{actionCost, costToGo, bestOf, through, leastToGo, feasible}
+use Rattle.model.specs.Recursion.{actionCost, costToGo, through, leastToGo, feasible}
 use Rattle.laws.specs.ToGo.{expected-same, by-stage}
 use Rattle.laws.specs.Members.{AtNexts, every-both}
-use Rattle.laws.specs.Best.{best-cases}
 use Rattle.accepted.specs.Options.{Feasible, Alive}
 use Rattle.accepted.specs.Shape.{shape, nexts-alive}
-use Rattle.accepted.specs.Demands.{to-go-most, through-most}
+use Rattle.accepted.specs.Demands.{to-go-most, least-most}
 use Rattle.costs.specs.Terms.{valueAt, most, Bounded}
 
 module _ (ws : Words) (ok : bookNumber ws ≡ 0) where
@@ -69,12 +68,8 @@ module _ (ws : Words) (ok : bookNumber ws ≡ 0) where
   unfolding most
   least-bounded p c v i h =
       every-both {P = λ (t : Transition). p < t .next} {Q = λ (t : Transition). Alive ws (t .next)}
-      (λ n l a. rw (h (n .next) (omega arith) a)
-      (through-most ws ok (togo ws (n .next)) (n .next) (bestOf (cost (n .next)) (feasible ws (n .next))) (best-cases (cost (n .next)) (feasible ws (n .next)))))
+      (λ n l a. rw (h (n .next) (omega arith) a) (least-most ws ok (togo ws (n .next)) (n .next)))
       (action ws p c .transitions) (shape ws ok .later p c) (nexts-alive ws ok p c i)
-    where
-      cost : ℕ → ℕ → ℤ
-      cost q = through (scale ws) (action ws) (feasible ws) (togo ws q) q
 
   -- one state more
   pub holds-more : (P : ℕ → Type 0) (u : ℕ → ℤ) (p : ℕ) (v : List ℤ) (y : ℤ) → p < length v → (P p → y ≡ u p) → Holds P u (p + 1) v

@@ -14,11 +14,9 @@ use lib.Seq.{getD-set-same, getD-set-other}
 use Rattle.model.specs.Lists.{isEmpty, keep, every, upFrom}
 use Rattle.model.specs.Model.{Words, Transition, stateCount, togo, actionCount, action, closed, options}
 use Rattle.model.specs.Questions.{bookNumber}
-use Rattle.model.specs.Policy.{nexts}
 use Rattle.model.specs.Recursion.{feasibleFrom, feasible}
-use Rattle.laws.specs.Members.{In, upFrom-in, in-upFrom, every-both, AtNexts, T-true, true-T, false-T}
-use Rattle.laws.specs.Kept.{keep-in, in-keep, keep-keep, keep-same, keep-all, in-some, none-in}
-use Rattle.accepted.specs.Facts.{accepted}
+use Rattle.laws.specs.Members.{In, upFrom-in, in-upFrom, every-both, AtNexts, false-T}
+use Rattle.laws.specs.Kept.{keep-in, in-keep, keep-keep, keep-same, in-some, none-in}
 use Rattle.accepted.specs.Options.{options-are}
 use Rattle.accepted.specs.Shape.{shape}
 use Rattle.sets.specs.Sets.{has, with, free, has-none, has-with, free-keep}

@@ -33,7 +33,7 @@ pub record BarredOf (ws : Words) (off : List ℕ) : Type 0 where
   pub long : length off ≡ 64
   pub leaves : (p : ℕ) → p < stateCount ws → Leaves ws p (getD off p 0)
 
--- for the states from n on, with the set of those from which no policy goes on
+-- for the states from n on, with the set of those from which no policy goes on; no state before n is in it
 pub record BarredFrom (ws : Words) (n : ℕ) (off : List ℕ) (dead : ℕ) : Type 0 where
   pub long : length off ≡ 64
   pub leaves : (p : ℕ) → n ≤ p → p < stateCount ws → Leaves ws p (getD off p 0)

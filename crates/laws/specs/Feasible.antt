@@ -1,22 +1,21 @@
 -- The actions from which a policy goes on: a policy takes no other, so the policies are those that keep to these actions, and there is one exactly if
 -- state 0 has such an action. For any actions and options.
 -- Assumes nothing.
-use mathlib.Core.Path.{_≡_, refl, sym, ap, ap₂, _∙_, subst, fun-ext}
+use mathlib.Core.Path.{_≡_, refl, sym, ap, _∙_, subst, fun-ext}
 use mathlib.Core.Bool.{Bool, true, false, not, cond}
 use mathlib.Core.Logic.{inl, ⊎-elim, _↔_}
 use mathlib.Core.List.{List, [], _∷_, _++_, map}
 use Prim.Native.Nat.{ℕ, zero, suc, _+_, _-_, _≤_, _<_}
 use native.Mathlib.Omega.{arith}
-use borrow.Author.Tests.{eq-eqb, ne-eqb}
+use borrow.Author.Tests.{eq-eqb, ne-eqb, not-true}
 use lib.Dec.{T, eqb}
-use Rattle.model.specs.Lists.{isIn, isEmpty, keep, every, forEach}
+use Rattle.model.specs.Lists.{isIn, isEmpty, every, forEach}
 use Rattle.model.specs.Model.{Transition, Action}
 use Rattle.model.specs.Policy.{Policy, nexts, allowed, onward, policiesFrom}
-use Rattle.model.specs.Path.{byteAt}
 use Rattle.model.specs.Recursion.{feasibleFrom}
-use Rattle.laws.specs.Members.{T-true, true-T, false-T, In, in-one, Every, every-in, every-imp, every-both, in-++, ++-in, isIn-in, in-isIn, Rising, AtNexts, at-nexts, nexts-at}
+use Rattle.laws.specs.Members.{T-true, true-T, false-T, In, in-one, every-imp, every-both, in-++, ++-in, isIn-in, Rising, AtNexts, at-nexts, nexts-at}
 use Rattle.laws.specs.Kept.{keep-in, in-keep, every-is, forEach-keep, keep-rising, some-in, in-some, none-in}
-use Rattle.laws.specs.Policies.{IsPolicy, in-policy, policy-in, reachedFrom, reached-mono, reached-closed, Reads, reads}
+use Rattle.laws.specs.Policies.{IsPolicy, in-policy, reachedFrom, reached-mono, reached-closed, Reads}
 use Rattle.laws.specs.First.{Shape}
 
 -- bytes from state p on are those that some function gives
@@ -57,13 +56,9 @@ module _ (S : ℕ) (act : ℕ → ℕ → Action) (togo : ℕ → ℕ) (sh : Sha
   abbrev goes : ℕ → Transition → Bool
   goes m t = not (isEmpty (feasibleFrom act opts m (t .next)))
 
-  not-empty : (b : Bool) → T (not b) → b ≡ false
-  not-empty true t = absurd t
-  not-empty false t = refl
-
   goes-on : (m : ℕ) (t : Transition) → m ≡ togo (t .next) → T (goes m t) ↔ GoesOn (t .next)
   goes-on m t e = rw e (
-    λ h. some-in (feasible (t .next)) (not-empty (isEmpty (feasible (t .next))) h),
+    λ h. some-in (feasible (t .next)) (not-true (isEmpty (feasible (t .next))) (T-true (goes (togo (t .next)) t) h)),
     λ h. false-T (in-some (feasible (t .next)) (h .0) (h .1)),
   )
 

@@ -1,5 +1,5 @@
--- The recursions of source document 000, times D to the power of the stages still to come, so that every figure is whole. No contract rests on them:
--- laws say that they agree with the sum over paths and with the first policy.
+-- The recursions of source document 000, times D to the power of the stages still to come, so that every figure is whole. No entry point's contract
+-- rests on them: laws say that they agree with the sum over paths and with the first policy.
 -- Assumes nothing.
 use Prim.Native.Nat.{ℕ, zero, suc, _^_}
 use mathlib.Core.Bool.{Bool, true, false, not}

@@ -15,7 +15,7 @@ use lib.Signed.{leZ, ltZ, leZ-yes, <ℤ-≤ℤ-trans, clashℤ}
 use Rattle.model.specs.Lists.{upFrom}
 use Rattle.model.specs.Recursion.{pick, firstLeast, bestOf}
 use Rattle.laws.specs.Int.{≤ℤ-trans, leZ-no, <→≤}
-use Rattle.laws.specs.Members.{Every, every-in, in-every, true-T, false-T, upFrom-in, in-upFrom}
+use Rattle.laws.specs.Members.{Every, every-in, in-every, true-T, false-T, upFrom-in}
 use Rattle.laws.specs.Best.{best-in}
 use Rattle.sets.specs.Sets.{has, free, free-in}
 use Rattle.table.specs.Table.{Chosen, better}

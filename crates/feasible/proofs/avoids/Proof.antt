@@ -7,7 +7,6 @@ use native.Mathlib.Omega.{arith}
 use lib.ListN.{drop}
 use Rattle.model.specs.Lists.{every}
 use Rattle.model.specs.Model.{action}
-use Rattle.model.specs.Policy.{nexts}
 use Rattle.lines.proofs.Steps.{next-done, all-done}
 use Rattle.sets.specs.Sets.{has}
 use Rattle.feasible.specs.Barred.{avoids}

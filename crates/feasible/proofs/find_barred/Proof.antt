@@ -1,7 +1,7 @@
 -- The sets of the states from p on are made.
 -- Assumes nothing.
 use mathlib.Core.Path.{_≡_, sym, ap, _∙_, subst}
-use Prim.Native.Nat.{ℕ, _+_, _-_, _≤_, _<_}
+use Prim.Native.Nat.{ℕ, _+_, _-_, _≤_}
 use native.Mathlib.Omega.{arith}
 use lib.ListN.{set}
 use Rattle.model.specs.Lists.{isEmpty, upFrom}
@@ -11,7 +11,6 @@ use Rattle.accepted.specs.Facts.{accepted}
 use Rattle.sets.specs.Sets.{free}
 use Rattle.feasible.specs.Barred.{BarredFrom}
 use Rattle.feasible.proofs.Sets.{barred-none, barred-alive, barred-dead}
-use borrow.Author.Needs.{needs}
 use Rattle.feasible.proofs.find_barred.Statement.{statement}
 use Rattle.feasible.proofs.find_barred.Tie as tie
 

@@ -7,7 +7,6 @@ use native.Mathlib.Omega.{arith}
 use Rattle.book.proofs.Words.{no, yes′}
 use Rattle.sets.specs.Sets.{has}
 use Rattle.feasible.proofs.Sets.{one-left, none-free, one-more}
-use borrow.Author.Needs.{needs}
 use Rattle.feasible.proofs.none_left.Statement.{statement}
 use Rattle.feasible.proofs.none_left.Tie as tie
 

@@ -7,11 +7,9 @@ use mathlib.Core.List.{[]}
 use native.Mathlib.Omega.{arith}
 use lib.IntN.{pos}
 use lib.ListN.{getD}
-use Rattle.model.specs.Lists.{isEmpty}
 use Rattle.model.specs.Model.{Words}
 use Rattle.model.specs.Questions.{bookNumber}
 use Rattle.model.specs.Policy.{hasPolicy}
-use Rattle.model.specs.Recursion.{feasible}
 use Rattle.model.specs.Calls.{leastNumber, leastCost}
 use Rattle.questions.specs.FirstNo.{passes, fails, none, then-yes}
 use Rattle.questions.specs.Answers.{stops, leaves}

@@ -1,6 +1,6 @@
 -- The word tested is the action's cost.
 -- Assumes nothing.
-use mathlib.Core.Path.{sym, ap, _∙_}
+use mathlib.Core.Path.{ap, _∙_}
 use native.Mathlib.Omega.{arith}
 use Rattle.model.specs.Model.{closed}
 use Rattle.lines.proofs.Words.{inside, cost-word}

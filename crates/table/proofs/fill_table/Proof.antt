@@ -17,7 +17,6 @@ use Rattle.costs.proofs.ToGo.{least-bounded}
 use Rattle.costs.proofs.Sums.{read64}
 use Rattle.table.specs.Table.{rowOf, TableFrom}
 use Rattle.table.proofs.Rows.{row-least, row-some, table-more, table-none}
-use borrow.Author.Needs.{needs}
 use Rattle.table.proofs.fill_table.Statement.{statement}
 use Rattle.table.proofs.fill_table.Tie as tie
 
