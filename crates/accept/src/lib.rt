@@ -1,4 +1,4 @@
-// Accepting a record: the questions 19, 1 to 14, 20 and 21 for any bytes; and showing one policy of a record.
+// Accepting a record: the questions 19, 1 to 14, 28, 20 and 21 for any bytes; and showing one policy of a record.
 ghost use mathlib.Core.Path.{_≡_};
 ghost use Rattle.model.specs.Questions.{firstNo};
 ghost use Rattle.model.specs.Record.{carriedBook, headQuestions, acceptNumber};

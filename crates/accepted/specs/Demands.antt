@@ -24,9 +24,9 @@ use Rattle.model.specs.Policy.{Policy, nexts, allowed, isPolicy, policies, hasP
 use Rattle.model.specs.Path.{Path, pathWeight, totalWeight, byteAt, taken, paths, policyCost}
 use Rattle.model.specs.Recursion.{costToGo, bestOf, leastOf, through, leastToGo, feasible, leastAt}
 use Rattle.model.specs.Order.{lower, comesBefore, ranking, rankingCosts}
-use Rattle.model.specs.Calls.{leastNumber, leastCost}
+use Rattle.model.specs.Calls.{valueNumber, leastNumber, leastCost}
 use Rattle.laws.specs.Int.{≤ℤ-antisym}
-use Rattle.laws.specs.Members.{T-true, true-T, false-T, In, in-one, isIn-in, in-isIn, Apart, at-nexts}
+use Rattle.laws.specs.Members.{T-true, true-T, false-T, same-test, In, in-one, every-imp, isIn-in, in-isIn, Apart, AtNexts, at-nexts}
 use Rattle.laws.specs.Kept.{none-in}
 use Rattle.laws.specs.Sorting.{Strict, Total, apart-take, at-in, apart-sorted, sorted-length, listed as list-entries}
 use Rattle.laws.specs.Paths.{endsAt, weight-paths, cost-paths, positive-paths, path-ends}
@@ -37,17 +37,13 @@ use Rattle.laws.specs.Order.{Low, Before, lower-is, before-is, before-cost, str
 use Rattle.laws.specs.First.{costFrom0, firstPolicy, is-policy, first-cost, cheapest, comes-first}
 use Rattle.accepted.specs.Facts.{accepted}
 use Rattle.accepted.specs.Options.{Option, Feasible, Alive, options-rising, option-open, option-small}
-use Rattle.accepted.specs.Shape.{policy-is, has-policy, shape, lists, policy-feasible, has-alive, togo-start, weights-bound, cost-bound, cost-feasible}
-use Rattle.questions.specs.FirstNo.{passes, none as none-left}
+use Rattle.accepted.specs.Shape.{policy-is, has-policy, shape, nexts-alive, lists, policy-feasible, has-alive, togo-start, weights-bound, cost-bound, cost-feasible}
+use Rattle.questions.specs.FirstNo.{passes, fails, none as none-left, then-yes}
 use Rattle.laws.specs.Entries.{in-at, some-at, map-at, take-one, count-most, count-none, by-rank}
 use Rattle.laws.specs.Walks.{policy-allowed, allowed-policy, reached-from, low-at}
 
 not-in : (x : ℕ) (ys : List ℕ) → (In x ys → ⊥) → isIn x ys ≡ false
-not-in x ys h = go (isIn x ys) refl
-  where
-    go : (b : Bool) → isIn x ys ≡ b → isIn x ys ≡ false
-    go true e = absurd (h (isIn-in x ys (true-T e)))
-    go false e = e
+not-in x ys h = same-test (isIn x ys) false (λ t. h (isIn-in x ys t)) (λ t. absurd t)
 
 -- the states that a policy reaches
 abbrev pub reached : Words → Policy → List ℕ
@@ -62,6 +58,10 @@ pub record PolicyBytes (ws : Words) (bs : Policy) : Type 0 where
   pub long : length bs ≡ stateCount ws
   pub at-reached : (q : ℕ) → q < stateCount ws → In q (reached ws bs) → Option ws q (byteAt bs q)
   pub at-other : (q : ℕ) → q < stateCount ws → (In q (reached ws bs) → ⊥) → byteAt bs q ≡ 255
+
+-- "a book without a plan": no bytes are one
+abbrev pub NoPolicy : Words → Type 0
+NoPolicy ws = (bs : Policy) → T (isPolicy ws bs) → ⊥
 
 module _ (ws : Words) (ok : bookNumber ws ≡ 0) where
   -- ---- policies
@@ -86,15 +86,33 @@ module _ (ws : Words) (ok : bookNumber ws ≡ 0) where
     λ b. has-policy ws .1 (b .0, policy-is ws (b .0) .0 (b .1)),
   )
 
-  pub no-policy : (hasPolicy ws ≡ false) ↔ ((bs : Policy) → T (isPolicy ws bs) → ⊥)
-  no-policy = (λ e bs t. never (sym e ∙ some-policy .1 (bs, t)), λ n. go (hasPolicy ws) refl n)
-    where
-      never : false ≡ true → ⊥
-      never e = subst T (sym e) tt
+  pub no-policy : (hasPolicy ws ≡ false) ↔ NoPolicy ws
+  no-policy = (
+    λ e bs t. subst T e (true-T (some-policy .1 (bs, t))),
+    λ n. same-test (hasPolicy ws) false (λ t. let b = some-policy .0 (T-true (hasPolicy ws) t) in n (b .0) (b .1)) (λ t. absurd t),
+  )
 
-      go : (b : Bool) → hasPolicy ws ≡ b → ((bs : Policy) → T (isPolicy ws bs) → ⊥) → hasPolicy ws ≡ false
-      go true e n = let b = some-policy .0 e in absurd (n (b .0) (b .1))
-      go false e n = e
+  -- 28 is passed where there is one
+  pub passes-28 : hasPolicy ws ≡ true → firstNo planQuestions ws ≡ 0
+  passes-28 has = passes ws _ [] has ∙ none-left ws
+
+  -- "Refused: 28, no plan": the question gives its number exactly then
+  pub refused-28 : (firstNo planQuestions ws ≡ 28) ↔ NoPolicy ws
+  refused-28 = (λ e. no-policy .0 (go (hasPolicy ws) refl e), λ n. fails ws _ _ (no-policy .1 n))
+    where
+      go : (b : Bool) → hasPolicy ws ≡ b → firstNo planQuestions ws ≡ 28 → hasPolicy ws ≡ false
+      go true h e = absurd (omega (arith, passes-28 h, e))
+      go false h e = h
+
+  -- "for the least cost of the book, after 13"
+  pub least-28 : (leastNumber ws ≡ 28) ↔ NoPolicy ws
+  unfolding leastNumber
+  least-28 = rw ok refused-28
+
+  -- valuing asks no 28: where no bytes are a plan, any get 17
+  pub value-17 : NoPolicy ws → (bs : Policy) → valueNumber ws bs ≡ 17
+  unfolding valueNumber
+  value-17 n bs = then-yes (bookNumber ws) _ ok ∙ fails bs _ _ (same-test (isPolicy ws bs) false (n bs) (λ t. absurd t))
 
   -- the policy of lowest best actions is one of them, if there is one
   pub best-policy : hasPolicy ws ≡ true → T (isPolicy ws (bestPolicy ws))
@@ -275,6 +293,11 @@ module _ (ws : Words) (ok : bookNumber ws ≡ 0) where
   least-missing p l n =
       ap (leastOf (through (scale ws) (action ws) (feasible ws) (togo ws p) p))
       (none-in (feasible ws p) (λ c i. n (record { state = l; some = (c, i) })))
+
+  -- and no sum reaches one that does not exist: where an action is feasible, each of its next states has one
+  pub least-nexts : (p c : ℕ) → Feasible ws p c
+      → AtNexts (λ q. leastAt ws q ≡ some (leastToGo (scale ws) (action ws) (feasible ws) (togo ws q) q)) (action ws p c .transitions)
+  least-nexts p c i = every-imp (λ t a. least-exists (t .next) a) (action ws p c .transitions) (nexts-alive ws ok p c i)
 
   -- "The least cost over all plans agrees with equation (5) times D^H.": this policy has that cost
   pub best-cost : hasPolicy ws ≡ true → policyCost ws (bestPolicy ws) ≡ leastToGo (scale ws) (action ws) (feasible ws) (togo ws 0) 0
@@ -494,9 +517,7 @@ module _ (ws : Words) (ok : bookNumber ws ≡ 0) where
   -- "the least cost that of the first plan"
   pub least-value : hasPolicy ws ≡ true → leastCost ws ≡ leastToGo (scale ws) (action ws) (feasible ws) (togo ws 0) 0
   unfolding leastCost leastNumber rankingCosts
-  least-value has =
-      let e : firstNo planQuestions ws ≡ 0 = passes ws _ [] has ∙ none-left ws in
-      rw (ok, e, first-policy has) (best-cost has)
+  least-value has = rw (ok, passes-28 has, first-policy has) (best-cost has)
 
   pub least-call : hasPolicy ws ≡ true → leastAt ws 0 ≡ some (leastCost ws)
   least-call has = least-exists 0 (has-alive ws ok has) ∙ ap (λ (z : ℤ). some z) (sym (least-value has))

@@ -1,20 +1,21 @@
 -- What the questions 1 to 14 and 28 say of a book and a count.
 -- Assumes nothing.
-use mathlib.Core.Path.{_≡_, refl, sym, _∙_}
-use mathlib.Core.Bool.{Bool, true, false}
+use mathlib.Core.Path.{_≡_, ap, _∙_}
+use mathlib.Core.Bool.{true}
 use mathlib.Core.Logic.{_↔_}
 use mathlib.Core.List.{[]}
-use Prim.Native.Nat.{ℕ, _≤_}
+use Prim.Native.Nat.{ℕ, zero, suc, _≤_, _<_}
 use native.Mathlib.Omega.{arith}
 use borrow.Author.Tests.{leb-true, le-leb}
-use lib.Dec.{T, leb}
+use lib.Dec.{leb}
 use Rattle.model.specs.Model.{Words}
-use Rattle.model.specs.Questions.{firstNo, bookNumber}
-use Rattle.model.specs.Policy.{Policy, isPolicy, hasPolicy}
+use Rattle.model.specs.Questions.{firstNo, andThen, bookNumber}
+use Rattle.model.specs.Policy.{hasPolicy}
 use Rattle.model.specs.Record.{countQuestions, planQuestions, askedNumber}
-use Rattle.accepted.specs.Demands.{no-policy}
+use Rattle.model.specs.Calls.{roomQuestions, rankNumber, writeQuestions, writeNumber}
+use Rattle.accepted.specs.Demands.{NoPolicy, passes-28, refused-28}
 use Rattle.questions.specs.Ranges.{and-true}
-use Rattle.questions.specs.FirstNo.{passed, passes, fails, none, then-yes, then-zero}
+use Rattle.questions.specs.FirstNo.{passed, passes, none, below, then-yes, then-zero}
 
 module _ (ws : Words) (k : ℕ) where
   -- all of them are passed
@@ -40,15 +41,25 @@ module _ (ws : Words) (k : ℕ) where
       ∙ then-yes (firstNo countQuestions k) _ (passes k _ [] (rw (le-leb 1 k low, le-leb k 64 high)) ∙ none k)
 
   pub asked-passed : Asked → askedNumber ws k ≡ 0
-  asked-passed a = asked-last (a .ok) (a .low) (a .high) ∙ passes ws _ [] (a .has) ∙ none ws
+  asked-passed a = asked-last (a .ok) (a .low) (a .high) ∙ passes-28 ws (a .ok) (a .has)
 
   -- 28: "earlier questions passed, exactly if the book has no plan"
-  pub asked-28 : bookNumber ws ≡ 0 → 1 ≤ k → k ≤ 64 → (askedNumber ws k ≡ 28) ↔ ((bs : Policy) → T (isPolicy ws bs) → ⊥)
-  asked-28 ok low high = (
-    λ e. no-policy ws ok .0 (refused (hasPolicy ws) refl (sym (asked-last ok low high) ∙ e)),
-    λ n. asked-last ok low high ∙ fails ws _ _ (no-policy ws ok .1 n),
-  )
-    where
-      refused : (b : Bool) → hasPolicy ws ≡ b → firstNo planQuestions ws ≡ 28 → hasPolicy ws ≡ false
-      refused true e z = let y : firstNo planQuestions ws ≡ 0 = passes ws _ [] e ∙ none ws in absurd (omega (arith, y, z))
-      refused false e z = e
+  module _ (ok : bookNumber ws ≡ 0) (low : 1 ≤ k) (high : k ≤ 64) where
+    pub asked-28 : (askedNumber ws k ≡ 28) ↔ NoPolicy ws
+    asked-28 = rw (asked-last ok low high) (refused-28 ws ok)
+
+    -- "before any slice or question 20": whatever number a later question gives
+    pub before-28 : (n : ℕ) → n < 28 → (andThen (askedNumber ws k) n ≡ 28) ↔ NoPolicy ws
+    before-28 n later = (λ e. asked-28 .0 (first (askedNumber ws k) e), λ none. ap (λ (m : ℕ). andThen m n) (asked-28 .1 none))
+      where
+        first : (m : ℕ) → andThen m n ≡ 28 → m ≡ 28
+        first zero e = absurd (omega arith)
+        first (suc m) e = e
+
+    pub rank-28 : (costs plans : ℕ) → (rankNumber ws (record { k = k; costs = costs; plans = plans }) ≡ 28) ↔ NoPolicy ws
+    unfolding rankNumber
+    rank-28 costs plans = before-28 _ (below _ 28 (omega arith) (roomQuestions ws) (omega arith))
+
+    pub write-28 : (room : ℕ) → (writeNumber ws k room ≡ 28) ↔ NoPolicy ws
+    unfolding writeNumber
+    write-28 room = before-28 _ (below room 28 (omega arith) (writeQuestions ws k) (omega arith))

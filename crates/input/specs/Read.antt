@@ -19,7 +19,7 @@ module _ (input : List ℕ) (q : Input) where
     pub count : q .no ≡ 0 → q .k ≡ inputCount input
     pub book : q .no ≡ 0 → take (q .n) (q .words) ≡ inputBook input
 
--- what is not refused passes the questions 1 to 14
+-- what is not refused passes the questions 1 to 14 and 28
 pub passes : (input : List ℕ) → inputNumber input ≡ 0 → askedNumber (inputBook input) (inputCount input) ≡ 0
 unfolding inputNumber
 passes input e = go (wholeWords (take mostInput input)) e

@@ -1,4 +1,4 @@
-// K and a book from the bytes that a program has read, with the questions 1 to 14.
+// K and a book from the bytes that a program has read, with the questions 1 to 14 and 28.
 ghost use mathlib.Core.Path.{_≡_};
 ghost use Prim.Native.Nat.{_≤_};
 ghost use lib.ListN.{length};

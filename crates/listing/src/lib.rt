@@ -17,7 +17,7 @@ fn no_plans() -> [u8; 4096]
     [0; 4096]
 }
 
-// The first k policies of a book that passes the questions 1 to 14, with their costs.
+// The first k policies of a book that passes the questions 1 to 14 and 28, with their costs.
 pub fn list(b: &[i32], k: usize) -> Listing
     requires { ⌜ Asked (now b) k ⌝ }
     ensures { λ l. ⌜ Listed (now (b .entry)) k l ⌝ }

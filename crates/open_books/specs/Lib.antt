@@ -1,3 +1,4 @@
 pub mod Open
 pub mod Former
 pub mod Same
+pub mod Avoid

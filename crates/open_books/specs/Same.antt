@@ -21,9 +21,10 @@ use Rattle.model.specs.Record.{headQuestions, tailQuestions, askedNumber, accep
 use Rattle.model.specs.Calls.{policyQuestions, valueNumber, leastNumber, leastCost}
 use Rattle.laws.specs.Members.{In, same-test}
 use Rattle.laws.specs.Policies.{fits-is, policy-in, in-policy, policies-same as same-policies}
-use Rattle.questions.specs.FirstNo.{AllYes, passed, passes, none, both-zero, rest-same, answers-same, then-zero}
+use Rattle.questions.specs.FirstNo.{AllYes, passed, both-zero, rest-same, answers-same, then-zero}
 use Rattle.accepted.specs.Facts.{each-action, every-same}
 use Rattle.accepted.specs.Shape.{action-is, policy-is}
+use Rattle.accepted.specs.Demands.{passes-28}
 use Rattle.open_books.specs.Open.{AllOpen, options-all, open-policy}
 use Rattle.open_books.specs.Former.{formerCost, formerLargest, formerBounded, formerQuestion, formerNumber, formerAsked, formerOptions}
 use Rattle.open_books.specs.Former.{formerPlan, formerPolicies, formerValueNumber, formerRanking, formerCosts, formerLeast, formerList}
@@ -96,7 +97,7 @@ module _ (ws : Words) (opened : AllOpen ws) where
 
   -- 28 is passed where it is asked
   plan-passed : bookNumber ws ≡ 0 → firstNo planQuestions ws ≡ 0
-  plan-passed ok = passes ws _ [] (open-policy ws ok opened) ∙ none ws
+  plan-passed ok = passes-28 ws ok (open-policy ws ok opened)
 
   asked-same : (k : ℕ) → formerAsked ws k ≡ askedNumber ws k
   unfolding formerAsked askedNumber

@@ -17,7 +17,7 @@ pub fn buffer() -> [u8; MOST_PAGE]
     [0; MOST_PAGE]
 }
 
-// The list of a book and a count that pass the questions 1 to 14.
+// The list of a book and a count that pass the questions 1 to 14 and 28.
 pub fn put_list(b: &[i32], k: usize, out: &mut [u8]) -> usize
     requires { ⌜ Asked (now b) k × (mostPage ≤ length (now out)) ⌝ }
     ensures { λ r. ⌜ Appended (now (out .entry)) 0 (listPage (now (b .entry)) k) (now (out .exit)) r ⌝ }

@@ -17,6 +17,11 @@ abbrev pub Numbered : {A : Type 0} → List (Question A) → Type 0
 Numbered [] = Unit {0}
 Numbered (q ∷ qs) = (0 < q .number) × Numbered qs
 
+-- every question of a list has a number below m
+abbrev pub NumberedBelow : {A : Type 0} → ℕ → List (Question A) → Type 0
+NumberedBelow m [] = Unit {0}
+NumberedBelow m (q ∷ qs) = (q .number < m) × NumberedBelow m qs
+
 module _ {A : Type 0} (x : A) where
   -- a question that is answered no gives its number
   pub fails : (q : Question A) (qs : List (Question A)) → q .asks x ≡ false → firstNo (q ∷ qs) x ≡ q .number
@@ -31,6 +36,15 @@ module _ {A : Type 0} (x : A) where
   pub none : firstNo [] x ≡ 0
   unfolding firstNo
   none = refl
+
+  -- so the first "no" has
+  pub below : (m : ℕ) → 0 < m → (qs : List (Question A)) → NumberedBelow m qs → firstNo qs x < m
+  below m some [] h = rw none some
+  below m some (q ∷ qs) h = go (q .asks x) refl (below m some qs (h .1))
+    where
+      go : (b : Bool) → q .asks x ≡ b → firstNo qs x < m → firstNo (q ∷ qs) x < m
+      go true a ih = rw (passes q qs a) ih
+      go false a ih = rw (fails q qs a) (h .0)
 
   -- no "no": every answer is yes
   pub passed : (qs : List (Question A)) → Numbered qs → firstNo qs x ≡ 0 → AllYes qs x

@@ -1,4 +1,4 @@
-// The K best policies of a book: the questions 1 to 16, and the list in the two lent slices.
+// The K best policies of a book: the questions 1 to 14, 28, 15 and 16, and the list in the two lent slices.
 ghost use mathlib.Core.Path.{_≡_};
 ghost use Rattle.model.specs.Calls.{roomOf, rankNumber, rankCount, rankCosts, rankPlans};
 
@@ -8,13 +8,13 @@ pub struct Ranking {
     pub k: usize,
 }
 
-// The number of the first of the questions 1 to 16 that is answered no, for slices of c costs and p bytes.
+// The number of the first of these questions that is answered no, for slices of c costs and p bytes.
 fn room_number(b: &[i32], k: usize, c: usize, p: usize) -> u32
     ensures { λ r. ⌜ r ≡ rankNumber (now (b .entry)) (record { k = k; costs = c; plans = p }) ⌝ }
 {
-    let no = asked::asked_number(b, k);
-    if no != 0 {
-        return no;
+    let first = asked::asked_number(b, k);
+    if first != 0 {
+        return first;
     }
     if c < k {
         return 15;

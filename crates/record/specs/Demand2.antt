@@ -19,11 +19,11 @@ use Rattle.model.specs.Record.{listBytes, recordBytes, carriedLength, carriedK,
 use Rattle.model.specs.Record.{headQuestions, tailQuestions, askedNumber, acceptNumber}
 use Rattle.model.specs.Calls.{ifAccepted, over, writeNumber, writeRecord}
 use Rattle.laws.specs.Members.{Every}
-use Rattle.questions.specs.FirstNo.{then-yes, then-zero}
-use Rattle.accepted.specs.Demands.{some-policy}
-use Rattle.asked.specs.Asked.{asked-says, asked-28}
+use Rattle.questions.specs.FirstNo.{below, then-zero}
+use Rattle.accepted.specs.Demands.{NoPolicy, some-policy}
+use Rattle.asked.specs.Asked.{asked-says, before-28}
 use Rattle.record.specs.Lengths.{headBytes, head-length, record-is, record-length, book-length, count-most, count-some}
-use Rattle.record.specs.Passed.{AcceptedRecord, tail-most, accept-says, accept-passed}
+use Rattle.record.specs.Passed.{AcceptedRecord, accept-says, accept-passed}
 use Rattle.record.specs.Carried.{k-back, count-written, book-back, book-length-is, head-again}
 
 -- an accepted record is the one written for what it carries
@@ -91,22 +91,9 @@ accepted-policy bs z = let a = accept-says bs z in some-policy (carriedBook bs) 
 
 -- 28: "earlier questions passed, exactly if the book has no plan", whatever 20 and 21 would say
 pub accept-28 : (bs : List ℕ) → firstNo headQuestions bs ≡ 0 → bookNumber (carriedBook bs) ≡ 0 → 1 ≤ carriedK bs → carriedK bs ≤ 64
-    → (acceptNumber bs ≡ 28) ↔ ((p : Policy) → T (isPolicy (carriedBook bs) p) → ⊥)
+    → (acceptNumber bs ≡ 28) ↔ NoPolicy (carriedBook bs)
 unfolding acceptNumber
-accept-28 bs head ok low high = (
-  λ e. asked-28 ws k ok low high .0 (first (askedNumber ws k) (sym (then-yes (firstNo headQuestions bs) _ head) ∙ e)),
-  λ none. then-yes (firstNo headQuestions bs) _ head ∙ ap (λ (n : ℕ). andThen n (firstNo tailQuestions bs)) (asked-28 ws k ok low high .1 none),
-)
-  where
-    ws : Words
-    ws = carriedBook bs
-
-    k : ℕ
-    k = carriedK bs
-
-    first : (n : ℕ) → andThen n (firstNo tailQuestions bs) ≡ 28 → n ≡ 28
-    first zero e = absurd (omega (arith, tail-most bs))
-    first (suc n) e = e
+accept-28 bs head ok low high = rw head (before-28 (carriedBook bs) (carriedK bs) ok low high _ (below bs 28 (omega arith) tailQuestions (omega arith)))
 
 -- what is written is accepted, and carries what it was written for
 pub record WrittenAccepted (ws : Words) (k : ℕ) : Type 0 where
@@ -139,7 +126,7 @@ written-accepted ws ok words k low high has =
         (ap hasPolicy book ∙ has) (sym (ap₂ recordBytes book asked)))
 
 -- "No record is written for a book without a plan": a lent slice is as it was
-pub unwritten : (ws : Words) → ((p : Policy) → T (isPolicy ws p) → ⊥) → (k : ℕ) (slice : List ℕ) → writeRecord ws k slice ≡ slice
+pub unwritten : (ws : Words) → NoPolicy ws → (k : ℕ) (slice : List ℕ) → writeRecord ws k slice ≡ slice
 unfolding writeRecord writeNumber
 unwritten ws none k slice = go (writeNumber ws k (length slice)) refl
   where

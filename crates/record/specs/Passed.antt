@@ -1,7 +1,7 @@
 -- What the questions 19 to 21 say of a record, once they are passed, and that nothing else is asked.
 -- Assumes nothing.
 use mathlib.Core.Path.{_≡_, refl, _∙_}
-use mathlib.Core.Bool.{Bool, true, false, _&&_}
+use mathlib.Core.Bool.{Bool, true, _&&_}
 use mathlib.Core.List.{List, []}
 use Prim.Native.Nat.{ℕ, zero, suc, _+_, _*_, _≤_}
 use native.Mathlib.Omega.{arith}
@@ -108,16 +108,6 @@ module _ (bs : List ℕ) where
       passes bs _ _ (sizes-pass z)
       ∙ passes bs _ [] (rw (eq-eqb _ _ (t .count), start-is, eq-same (t .list)))
       ∙ none bs
-
-  -- 20 and 21 are the last numbers
-  pub tail-most : firstNo tailQuestions bs ≤ 21
-  unfolding firstNo
-  tail-most = go sizesFit (count-is && list-is)
-    where
-      go : (a b : Bool) → elim a [ true ↦ elim b [ true ↦ 0 | false ↦ 21 ] | false ↦ 20 ] ≤ 21
-      go true true = omega arith
-      go true false = omega arith
-      go false b = omega arith
 
   -- all that is asked of a record
   pub record AcceptedRecord : Type 0 where

@@ -1,4 +1,4 @@
-// Writing a record: the questions 1 to 14 and 18, and the record's bytes at the front of the lent slice.
+// Writing a record: the questions 1 to 14, 28 and 18, and the record's bytes at the front of the lent slice.
 ghost use mathlib.Core.Path.{_≡_};
 ghost use lib.ListN.{length};
 ghost use Rattle.model.specs.Calls.{writeNumber, writeLength, writeRecord};

@@ -20,7 +20,7 @@ carried-k-requires c κs = head-says _ (c .before .pre .0) .long
 asked-number-requires : tie.Need-asked-number-requires
 asked-number-requires c κs = search needs
 
--- the answer to 1 to 14 is that for what is carried
+-- the answer to 1 to 14 and 28 is that for what is carried
 asked-is : (c : tie.After-asked-number) →
     let r = c .before .before .before .args .r .now in
     c .asked-number .result ≡ askedNumber (carriedBook r) (carriedK r)

@@ -22,22 +22,18 @@ Inv-loop b z x p dead n j₀ mask₀ c₀ j mask c =
 abbrev μ-loop : tie.MeasureT-loop
 μ-loop b z x p dead n j₀ mask₀ c₀ j mask c = n - c
 
--- src/lib.rt:56:9
 count-requires : tie.Need-count-requires Inv-loop μ-loop
 count-requires c κs = search needs
 
 state : (c : tie.After-count Inv-loop μ-loop) → c .before .args .p < 64
 state c = let s = c .before in omega (arith, s .pre .1, accepted (s .args .b .now) (s .pre .0 .checked .ok) .sizes .s-high)
 
--- src/lib.rt:57:17
 mul-j : tie.Need-mul-j Inv-loop μ-loop
 mul-j c = omega (arith, state c)
 
--- src/lib.rt:57:17
 element-copy-out-j : tie.Need-element-copy-out-j Inv-loop μ-loop
 element-copy-out-j c = omega (arith, state c)
 
--- src/lib.rt:60:5
 loop-holds : tie.Need-loop-holds Inv-loop μ-loop
 loop-holds c =
     let s = c .before .before in
@@ -57,37 +53,29 @@ here c =
     let s = l .before .before .before in
     record { state = s .pre .1; action = omega (arith, l .before .before .count .ensures); line-is = l .loop .inv .3 }
 
--- src/lib.rt:61:13
 of-line-requires : tie.Need-of-line-requires Inv-loop μ-loop
 of-line-requires c κs = (c .before .before .before .before .pre .0, here c)
 
--- src/lib.rt:62:13
 goes-on-requires : tie.Need-goes-on-requires Inv-loop μ-loop
 goes-on-requires c κs = c .of-line .ensures
 
--- src/lib.rt:63:38
 cast-with8 : tie.Need-cast-with8 Inv-loop μ-loop
 cast-with8 c = omega arith
 
--- src/lib.rt:63:13
 with8-requires : tie.Need-with8-requires Inv-loop μ-loop
 with8-requires c κs = omega arith
 
--- src/lib.rt:65:9
 line-after-requires : tie.Need-line-after-requires Inv-loop μ-loop
 line-after-requires c κs =
     let t = c .before .before .before in
     (t .before .before .before .before .pre .0 .checked, here t)
 
--- src/lib.rt:66:13
 add-c : tie.Need-add-c Inv-loop μ-loop
 add-c c = omega arith
 
--- src/lib.rt:60:5
 loop-less : tie.Need-loop-less Inv-loop μ-loop
 loop-less c = omega arith
 
--- src/lib.rt:60:5
 loop-again : tie.Need-loop-again Inv-loop μ-loop
 loop-again c =
     let a = c .before in
@@ -107,7 +95,6 @@ loop-again c =
       c .line-after .ensures,
     )
 
--- src/lib.rt:52:1
 returns : tie.Need-returns Inv-loop μ-loop
 returns c =
     let l = c .before in

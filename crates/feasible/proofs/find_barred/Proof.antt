@@ -20,11 +20,9 @@ Inv-loop b z x off₀ dead₀ p₀ off dead p = (stateCount b ≤ 64) × (p ≤ 
 abbrev μ-loop : tie.MeasureT-loop
 μ-loop b z x off₀ dead₀ p₀ off dead p = p
 
--- src/lib.rt:97:19
 no-sets-requires : tie.Need-no-sets-requires Inv-loop μ-loop
 no-sets-requires c κs = tt
 
--- src/lib.rt:100:5
 loop-holds : tie.Need-loop-holds Inv-loop μ-loop
 loop-holds c =
     let s = c .before in
@@ -35,36 +33,29 @@ loop-holds c =
       subst (λ (n : ℕ). BarredFrom ws n (c .no-sets .result) 0) (sym e) (barred-none ws (c .no-sets .result) (c .no-sets .ensures)),
     )
 
--- src/lib.rt:101:13
 sub-p : tie.Need-sub-p Inv-loop μ-loop
 sub-p c = omega arith
 
--- src/lib.rt:102:13
 barred-at-requires : tie.Need-barred-at-requires Inv-loop μ-loop
 barred-at-requires c κs =
     let l = c .before in
     (l .before .before .pre, omega arith, λ p a b. l .loop .inv .2 .dead-is p (omega arith) b)
 
--- src/lib.rt:103:9
 array-write-off : tie.Need-array-write-off Inv-loop μ-loop
 array-write-off c = omega arith
 
--- src/lib.rt:104:13
 count-requires : tie.Need-count-requires Inv-loop μ-loop
 count-requires c κs = (c .before .before .before .before .pre .checked, omega arith)
 
--- src/lib.rt:105:12
 none-left-requires : tie.Need-none-left-requires Inv-loop μ-loop
 none-left-requires c κs =
     let l = c .before .before .before in
     let s = l .before .before in
     omega (arith, c .count .ensures, accepted (s .args .b .now) (s .pre .checked .ok) .counts-high (l .loop .p - 1) (omega arith))
 
--- src/lib.rt:106:13
 with64-requires : tie.Need-with64-requires Inv-loop μ-loop
 with64-requires c κs = omega arith
 
--- src/lib.rt:100:5
 -- the sets of the states after this one, and whether it has an action left
 module _ (c : tie.After-none-left Inv-loop μ-loop) where
   abbrev l : tie.At-loop Inv-loop μ-loop
@@ -85,7 +76,6 @@ module _ (c : tie.After-none-left Inv-loop μ-loop) where
 loop-less : tie.Need-loop-less Inv-loop μ-loop
 loop-less c = omega arith
 
--- src/lib.rt:100:5
 loop-again : tie.Need-loop-again Inv-loop μ-loop
 loop-again c =
     let a = c .before .before in
@@ -97,11 +87,9 @@ loop-again c =
           (sym (empty a) ∙ c .before .if1 .taken)),
     )
 
--- src/lib.rt:100:5
 loop-less-2 : tie.Need-loop-less-2 Inv-loop μ-loop
 loop-less-2 c = omega arith
 
--- src/lib.rt:100:5
 loop-again-2 : tie.Need-loop-again-2 Inv-loop μ-loop
 loop-again-2 c =
     let a = c .before in
@@ -112,7 +100,6 @@ loop-again-2 c =
           (sym (empty a) ∙ c .if1 .left),
     )
 
--- src/lib.rt:93:1
 returns : tie.Need-returns Inv-loop μ-loop
 returns c =
     let l = c .before in

@@ -1,4 +1,4 @@
--- The refusal, or the list of the carried book, which passes the questions 1 to 14 since the record is accepted.
+-- The refusal, or the list of the carried book, which passes the questions 1 to 14 and 28 since the record is accepted.
 -- Assumes nothing.
 use mathlib.Core.Path.{_≡_, sym, ap, ap₂, _∙_}
 use Prim.Native.Nat.{ℕ, _≤_}

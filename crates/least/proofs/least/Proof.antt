@@ -3,7 +3,6 @@
 use borrow.Author.Needs.{needs}
 use mathlib.Core.Path.{_≡_, sym, ap, _∙_}
 use mathlib.Core.Bool.{true, false, not}
-use mathlib.Core.List.{[]}
 use native.Mathlib.Omega.{arith}
 use lib.IntN.{pos}
 use lib.ListN.{getD}
@@ -11,10 +10,10 @@ use Rattle.model.specs.Model.{Words}
 use Rattle.model.specs.Questions.{bookNumber}
 use Rattle.model.specs.Policy.{hasPolicy}
 use Rattle.model.specs.Calls.{leastNumber, leastCost}
-use Rattle.questions.specs.FirstNo.{passes, fails, none, then-yes}
+use Rattle.questions.specs.FirstNo.{then-yes}
 use Rattle.questions.specs.Answers.{stops, leaves}
 use Rattle.accepted.specs.Shape.{shape, has-alive, has-is}
-use Rattle.accepted.specs.Demands.{least-value}
+use Rattle.accepted.specs.Demands.{no-policy, passes-28, least-28, least-value}
 use Rattle.index.proofs.Lines.{headed}
 use Rattle.feasible.specs.Barred.{all-barred}
 use Rattle.costs.proofs.Sums.{read64}
@@ -24,12 +23,11 @@ use Rattle.least.proofs.least.Tie as tie
 -- 28 by whether the book has a policy
 module _ (ws : Words) (ok : bookNumber ws ≡ 0) where
   number-28 : hasPolicy ws ≡ false → leastNumber ws ≡ 28
-  unfolding leastNumber
-  number-28 e = then-yes (bookNumber ws) _ ok ∙ fails ws _ _ e
+  number-28 e = least-28 ws ok .1 (no-policy ws ok .0 e)
 
   number-0 : hasPolicy ws ≡ true → leastNumber ws ≡ 0
   unfolding leastNumber
-  number-0 e = then-yes (bookNumber ws) _ ok ∙ passes ws _ [] e ∙ none ws
+  number-0 e = then-yes (bookNumber ws) _ ok ∙ passes-28 ws ok e
 
 check-requires : tie.Need-check-requires
 check-requires c κs = search needs

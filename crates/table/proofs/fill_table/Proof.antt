@@ -26,7 +26,6 @@ Inv-loop b z x off q₀ v₀ p₀ q v p = (stateCount b ≤ 64) × (p ≤ stateC
 abbrev μ-loop : tie.MeasureT-loop
 μ-loop b z x off q₀ v₀ p₀ q v p = p
 
--- src/lib.rt:124:5
 loop-holds : tie.Need-loop-holds Inv-loop μ-loop
 loop-holds s =
     let a = accepted (s .args .b .now) (s .pre .0 .checked .ok) .sizes in (
@@ -40,15 +39,12 @@ loop-holds s =
       },
     )
 
--- src/lib.rt:125:13
 sub-p : tie.Need-sub-p Inv-loop μ-loop
 sub-p c = omega arith
 
--- src/lib.rt:126:20
 element-copy-out-mask : tie.Need-element-copy-out-mask Inv-loop μ-loop
 element-copy-out-mask c = omega arith
 
--- src/lib.rt:127:9
 fill-row-requires : tie.Need-fill-row-requires Inv-loop μ-loop
 fill-row-requires c κs =
     let l = c .before .before .before .before in
@@ -62,13 +58,11 @@ fill-row-requires c κs =
       l .loop .inv .2 .rows,
     )
 
--- src/lib.rt:128:13
 count-requires : tie.Need-count-requires Inv-loop μ-loop
 count-requires c κs =
     let s = c .before .before .before .before .before .before in
     (s .pre .0 .checked, omega arith)
 
--- src/lib.rt:129:13
 best-action-requires : tie.Need-best-action-requires Inv-loop μ-loop
 best-action-requires c κs =
     let l = c .before .before .before .before .before .before .before in
@@ -113,23 +107,18 @@ module _ (k : tie.After-best-action Inv-loop μ-loop) where
   best-is : k .best-action .result ≡ bestOf (rowOf row p) (free off (upFrom 0 (actionCount ws p)))
   best-is = k .best-action .ensures ∙ ap (λ n. bestOf (rowOf row p) (free off (upFrom 0 n))) (k .before .before .count .ensures)
 
--- src/lib.rt:131:17
 entry-requires : tie.Need-entry-requires Inv-loop μ-loop
 entry-requires c κs = (omega arith, c .before .if1 .taken)
 
--- src/lib.rt:132:13
 mul-y : tie.Need-mul-y Inv-loop μ-loop
 mul-y c = omega arith
 
--- src/lib.rt:132:13
 element-set-from-y : tie.Need-element-set-from-y Inv-loop μ-loop
 element-set-from-y c = omega arith
 
--- src/lib.rt:124:5
 loop-less : tie.Need-loop-less Inv-loop μ-loop
 loop-less c = omega arith
 
--- src/lib.rt:124:5
 loop-again : tie.Need-loop-again Inv-loop μ-loop
 loop-again c =
     let k = c .before .before .before in
@@ -143,11 +132,9 @@ loop-again c =
           (k .best-action .result) (leaves k) (best-is k) a),
     )
 
--- src/lib.rt:124:5
 loop-less-2 : tie.Need-loop-less-2 Inv-loop μ-loop
 loop-less-2 c = omega arith
 
--- src/lib.rt:124:5
 loop-again-2 : tie.Need-loop-again-2 Inv-loop μ-loop
 loop-again-2 c =
     let k = c .before in (
@@ -162,7 +149,6 @@ loop-again-2 c =
           )),
     )
 
--- src/lib.rt:112:1
 returns : tie.Need-returns Inv-loop μ-loop
 returns c =
     let l = c .before in
