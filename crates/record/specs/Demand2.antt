@@ -93,7 +93,8 @@ accepted-policy bs z = let a = accept-says bs z in some-policy (carriedBook bs) 
 pub accept-28 : (bs : List ℕ) → firstNo headQuestions bs ≡ 0 → bookNumber (carriedBook bs) ≡ 0 → 1 ≤ carriedK bs → carriedK bs ≤ 64
     → (acceptNumber bs ≡ 28) ↔ NoPolicy (carriedBook bs)
 unfolding acceptNumber
-accept-28 bs head ok low high = rw head (before-28 (carriedBook bs) (carriedK bs) ok low high _ (below bs 28 (omega arith) tailQuestions (omega arith)))
+accept-28 bs head ok low high =
+    rw head (before-28 (carriedBook bs) (carriedK bs) ok low high _ (λ e. omega (arith, e, below bs 28 (omega arith) tailQuestions (omega arith))))
 
 -- what is written is accepted, and carries what it was written for
 pub record WrittenAccepted (ws : Words) (k : ℕ) : Type 0 where
