@@ -92,7 +92,7 @@ module _ (ws : Words) (ok : bookNumber ws ≡ 0) where
     λ n. same-test (hasPolicy ws) false (λ t. let b = some-policy .0 (T-true (hasPolicy ws) t) in n (b .0) (b .1)) (λ t. absurd t),
   )
 
-  -- 28 is passed where there is one
+  -- a book that has a plan passes it
   pub passes-28 : hasPolicy ws ≡ true → firstNo planQuestions ws ≡ 0
   passes-28 has = passes ws _ [] has ∙ none-left ws
 

@@ -17,12 +17,14 @@ use Rattle.model.specs.Model.{Words, Transition, Action, weightsOf, scale, hori
 use Rattle.model.specs.Model.{branches, actionLine, transitionAt, readAction, noAction, action, closed, options}
 use Rattle.model.specs.Questions.{inside, nextBefore, nextsAllowed, weightSum, weightsAllowed, largestCost, bookNumber}
 use Rattle.model.specs.Policy.{Policy, policiesFrom, isPolicy, policies, hasPolicy}
+use Rattle.model.specs.Path.{byteAt}
 use Rattle.model.specs.Recursion.{feasible}
 use Rattle.laws.specs.Members.{T-true, true-T, false-T, same-test, In, Every, in-every, every-imp, every-both, in-map, upFrom-in, AtNexts}
 use Rattle.laws.specs.Policies.{IsPolicy, fits-is, policy-in, in-policy}
 use Rattle.laws.specs.First.{Shape, Lists}
 use Rattle.laws.specs.Kept.{some-in, in-some}
-use Rattle.laws.specs.Feasible.{feasible-is, keeps, same-policies, goes-on-is}
+use Rattle.laws.specs.Feasible.{feasible-is, same-policies, goes-on-is}
+use Rattle.laws.specs.Walks.{other-options}
 use Rattle.questions.specs.Ranges.{and-true, all-at, sum-same, inside-range}
 use Rattle.questions.specs.Stages.{OfStage, stage-is, of-stage, first-mono, first-step, first-zero}
 use Rattle.accepted.specs.Facts.{Accepted, accepted}
@@ -260,7 +262,8 @@ module _ (ws : Words) (ok : bookNumber ws ≡ 0) where
   policy-feasible bs = (
     λ t. in-policy (action ws) (feasible ws) (stateCount ws) 0 (0 ∷ []) bs
         (subst (In bs) policies-feasible (policy-in (action ws) (options ws) (stateCount ws) 0 (0 ∷ []) bs (policy-is ws bs .0 t))),
-    λ i. policy-is ws bs .1 (keeps (stateCount ws) (action ws) (togo ws) shape (options ws) (stateCount ws) 0 (0 ∷ []) bs i),
+    λ i. policy-is ws bs .1
+        (other-options (action ws) (shape .later) (feasible ws) (options ws) (stateCount ws) bs (λ q r o. to-option ws q (byteAt bs q) o) i),
   )
 
   -- a policy goes on from state p exactly if there is a policy of the states from p on that reaches p

@@ -1,21 +1,21 @@
 -- What the questions 1 to 14 and 28 say of a book and a count.
 -- Assumes nothing.
-use mathlib.Core.Path.{_≡_, ap, _∙_}
+use mathlib.Core.Path.{_≡_, refl, ap, _∙_}
 use mathlib.Core.Bool.{true}
 use mathlib.Core.Logic.{_↔_}
-use mathlib.Core.List.{[]}
+use mathlib.Core.List.{List, []}
 use Prim.Native.Nat.{ℕ, zero, suc, _≤_}
 use native.Mathlib.Omega.{arith}
 use borrow.Author.Tests.{leb-true, le-leb}
 use lib.Dec.{leb}
 use Rattle.model.specs.Model.{Words}
-use Rattle.model.specs.Questions.{firstNo, andThen, bookNumber}
+use Rattle.model.specs.Questions.{Question, firstNo, andThen, bookNumber}
 use Rattle.model.specs.Policy.{hasPolicy}
 use Rattle.model.specs.Record.{countQuestions, planQuestions, askedNumber}
-use Rattle.model.specs.Calls.{Room, roomQuestions, rankNumber, writeQuestions, writeNumber}
+use Rattle.model.specs.Calls.{roomQuestions, rankNumber, writeQuestions, writeNumber}
 use Rattle.accepted.specs.Demands.{NoPolicy, passes-28, refused-28}
 use Rattle.questions.specs.Ranges.{and-true}
-use Rattle.questions.specs.FirstNo.{passed, passes, none, below, then-yes, then-zero}
+use Rattle.questions.specs.FirstNo.{Without, passed, passes, none, never, then-yes, then-zero}
 
 module _ (ws : Words) (k : ℕ) where
   -- all of them are passed
@@ -48,20 +48,19 @@ module _ (ws : Words) (k : ℕ) where
     pub asked-28 : (askedNumber ws k ≡ 28) ↔ NoPolicy ws
     asked-28 = rw (asked-last ok low high) (refused-28 ws ok)
 
-    -- "before any slice or question 20": whatever other number a later question gives
-    pub before-28 : (n : ℕ) → (n ≡ 28 → ⊥) → (andThen (askedNumber ws k) n ≡ 28) ↔ NoPolicy ws
-    before-28 n other = (λ e. asked-28 .0 (first (askedNumber ws k) e), λ none. ap (λ (m : ℕ). andThen m n) (asked-28 .1 none))
+    -- "before any slice or question 20": whatever questions come after it
+    pub before-28 : {A : Type 0} (x : A) (qs : List (Question A)) → Without 28 qs → (andThen (askedNumber ws k) (firstNo qs x) ≡ 28) ↔ NoPolicy ws
+    before-28 x qs others =
+        (λ e. asked-28 .0 (first (askedNumber ws k) e), λ none. ap (λ (n : ℕ). andThen n (firstNo qs x)) (asked-28 .1 none))
       where
-        first : (m : ℕ) → andThen m n ≡ 28 → m ≡ 28
-        first zero e = absurd (other e)
-        first (suc m) e = e
+        first : (n : ℕ) → andThen n (firstNo qs x) ≡ 28 → n ≡ 28
+        first zero e = absurd (never x 28 (omega arith) qs others e)
+        first (suc n) e = e
 
     pub rank-28 : (costs plans : ℕ) → (rankNumber ws (record { k = k; costs = costs; plans = plans }) ≡ 28) ↔ NoPolicy ws
     unfolding rankNumber
-    rank-28 costs plans =
-        let room : Room = record { k = k; costs = costs; plans = plans } in
-        before-28 _ (λ e. omega (arith, e, below room 28 (omega arith) (roomQuestions ws) (omega arith)))
+    rank-28 costs plans = before-28 (record { k = k; costs = costs; plans = plans }) (roomQuestions ws) (refl, (refl, tt))
 
     pub write-28 : (room : ℕ) → (writeNumber ws k room ≡ 28) ↔ NoPolicy ws
     unfolding writeNumber
-    write-28 room = before-28 _ (λ e. omega (arith, e, below room 28 (omega arith) (writeQuestions ws k) (omega arith)))
+    write-28 room = before-28 room (writeQuestions ws k) (refl, tt)

@@ -1,16 +1,17 @@
 -- Lines of an accepted book lie within its columns.
 -- Assumes nothing.
-use mathlib.Core.Path.{_≡_, refl}
-use Prim.Native.Nat.{ℕ, _+_, _*_, _≤_}
+use mathlib.Core.Path.{_≡_, refl, sym, _∙_}
+use mathlib.Core.List.{List}
+use Prim.Native.Nat.{ℕ, _+_, _*_, _≤_, _<_}
 use native.Mathlib.Numerals.{add-one}
 use native.Mathlib.Omega.{arith}
-use lib.ListN.{length}
-use Rattle.model.specs.Model.{Words, lineCount, stateLine, actionCount, branches, lineAfter, skip, actionLine}
+use lib.ListN.{length, getD}
+use Rattle.model.specs.Model.{Words, stateCount, lineCount, stateLine, actionCount, branches, lineAfter, skip, actionLine}
 use Rattle.model.specs.Questions.{bookNumber}
 use Rattle.accepted.specs.Facts.{accepted}
 use Rattle.book.specs.Read.{Headed}
 use Rattle.book.specs.declared.Sizes.{Sizes}
-use Rattle.index.specs.Index.{Checked, ActionAt}
+use Rattle.index.specs.Index.{Checked, Indexed, ActionAt}
 
 -- the words of the action whose first line is line j are there
 pub record Inside (ws : Words) (z : Sizes) (j : ℕ) : Type 0 where
@@ -28,6 +29,17 @@ lines-inside ws z p c j k a =
 pub line-start : (ws : Words) (p : ℕ) → actionLine ws p 0 ≡ stateLine ws p
 unfolding actionLine skip
 line-start ws p = refl
+
+-- what a pass over the actions of state p begins with
+pub record Entered (ws : Words) (x : List ℕ) (p : ℕ) : Type 0 where
+  pub small : p < 64
+  pub few : actionCount ws p ≤ 8
+  pub first : getD x p 0 ≡ actionLine ws p 0
+
+pub entered : {ws : Words} {z : Sizes} {x : List ℕ} → Indexed ws z x → (p : ℕ) → p < stateCount ws → Entered ws x p
+entered {ws} h p l =
+    let a = accepted ws (h .checked .ok) in
+    record { small = omega (arith, a .sizes .s-high); few = a .counts-high p l; first = h .index .line p l ∙ sym (line-start ws p) }
 
 -- the line after those of action c
 pub line-next : (ws : Words) (p c j : ℕ) → j ≡ actionLine ws p c → j + 1 + branches ws j ≡ actionLine ws p (c + 1)

@@ -110,18 +110,6 @@ module _ (S : ℕ) (act : ℕ → ℕ → Action) (togo : ℕ → ℕ) (sh : Sha
 
   -- ---- the policies that keep to feasible actions are the policies
 
-  -- every feasible action is an option
-  pub keeps : (n p : ℕ) (reach : List ℕ) (bs : Policy) → IsPolicy act (λ p. feasibleFrom act opts (togo p) p) n p reach bs
-      → IsPolicy act opts n p reach bs
-  keeps zero p reach [] is = tt
-  keeps zero p reach (b ∷ bs) is = absurd is
-  keeps (suc n) p reach [] is = absurd is
-  keeps (suc n) p reach (b ∷ bs) is = (option (isIn p reach) (is .0), keeps n (suc p) (onward act p b reach) bs (is .1))
-    where
-      option : (t : Bool) → In b (allowed (feasible p) t) → In b (allowed (opts p) t)
-      option true i = feasible-option act opts (togo p) p b i
-      option false i = i
-
   -- a policy of the states after p shows that the next states of byte b at p go on
   after-byte : (n p b : ℕ) (reach : List ℕ) (bs : Policy) → suc p + n ≡ S → IsPolicy act opts n (suc p) (onward act p b reach) bs
       → AtNexts GoesOn (act p b .transitions)

@@ -14,7 +14,7 @@ use Rattle.model.specs.Model.{Transition, Action}
 use Rattle.model.specs.Policy.{Policy, nexts, allowed, onward}
 use Rattle.model.specs.Path.{byteAt}
 use Rattle.laws.specs.Members.{T-true, true-T, In, in-one, in-++, isIn-in, in-isIn, AtNexts, at-nexts}
-use Rattle.laws.specs.Policies.{IsPolicy, reachedFrom, reached-mono, reached-late, Reads}
+use Rattle.laws.specs.Policies.{IsPolicy, policy-length, reachedFrom, reached-mono, reached-late, Reads, reads}
 use Rattle.laws.specs.Order.{Low}
 
 module _ (act : ℕ → ℕ → Action) (opts : ℕ → List ℕ) (later : (p c : ℕ) → AtNexts (λ q. p < q) (act p c .transitions)) where
@@ -99,6 +99,21 @@ module _ (act : ℕ → ℕ → Action) (opts : ℕ → List ℕ) (later : (p c 
         go : In q (onward act p b reach) ⊎ Follows all q → In q reach ⊎ Follows all q
         go (inl j) = split (in-++ q (nexts (act p b .transitions)) reach j)
         go (inr s) = inr s
+
+-- bytes that are a policy by some options are one by others, if these have each byte of a state that is reached
+pub other-options : (act : ℕ → ℕ → Action) (later : (p c : ℕ) → AtNexts (λ q. p < q) (act p c .transitions)) (opts others : ℕ → List ℕ) (n : ℕ)
+    (bs : Policy) → ((q : ℕ) → In q (reachedFrom act 0 (0 ∷ []) bs) → In (byteAt bs q) (opts q) → In (byteAt bs q) (others q))
+    → IsPolicy act opts n 0 (0 ∷ []) bs → IsPolicy act others n 0 (0 ∷ []) bs
+other-options act later opts others n bs h is =
+    allowed-policy act others later (byteAt bs) n 0 (0 ∷ []) bs (policy-length act opts n 0 (0 ∷ []) bs is) (reads bs)
+    (λ q a l. go q (isIn q all) refl (policy-allowed act opts later (byteAt bs) n 0 (0 ∷ []) bs is (reads bs) q a l))
+  where
+    all : List ℕ
+    all = reachedFrom act 0 (0 ∷ []) bs
+
+    go : (q : ℕ) (b : Bool) → isIn q all ≡ b → In (byteAt bs q) (allowed (opts q) b) → In (byteAt bs q) (allowed (others q) b)
+    go q true e o = h q (isIn-in q all (true-T e)) o
+    go q false e o = o
 
 -- of two lists of bytes, the one with the lower byte at the first place where they differ has the lower bytes
 pub low-at : (bs cs : Policy) (i : ℕ) → i < length bs → i < length cs → ((j : ℕ) → j < i → byteAt bs j ≡ byteAt cs j)

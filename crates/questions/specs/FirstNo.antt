@@ -5,6 +5,8 @@ use mathlib.Core.Bool.{Bool, true, false}
 use mathlib.Core.List.{List, [], _∷_, _++_, map}
 use Prim.Native.Nat.{ℕ, zero, suc, _+_, _<_}
 use native.Mathlib.Omega.{arith}
+use borrow.Author.Tests.{eqb-false}
+use lib.Dec.{eqb}
 use Rattle.model.specs.Questions.{Question, firstNo, andThen}
 
 -- every question of a list is answered yes
@@ -17,10 +19,10 @@ abbrev pub Numbered : {A : Type 0} → List (Question A) → Type 0
 Numbered [] = Unit {0}
 Numbered (q ∷ qs) = (0 < q .number) × Numbered qs
 
--- every question of a list has a number below m
-abbrev pub NumberedBelow : {A : Type 0} → ℕ → List (Question A) → Type 0
-NumberedBelow m [] = Unit {0}
-NumberedBelow m (q ∷ qs) = (q .number < m) × NumberedBelow m qs
+-- no question of a list has the number m
+abbrev pub Without : {A : Type 0} → ℕ → List (Question A) → Type 0
+Without m [] = Unit {0}
+Without m (q ∷ qs) = (eqb (q .number) m ≡ false) × Without m qs
 
 module _ {A : Type 0} (x : A) where
   -- a question that is answered no gives its number
@@ -37,14 +39,14 @@ module _ {A : Type 0} (x : A) where
   unfolding firstNo
   none = refl
 
-  -- so the first "no" has
-  pub below : (m : ℕ) → 0 < m → (qs : List (Question A)) → NumberedBelow m qs → firstNo qs x < m
-  below m some [] h = rw none some
-  below m some (q ∷ qs) h = go (q .asks x) refl (below m some qs (h .1))
+  -- a list in which no question has a number does not give it
+  pub never : (m : ℕ) → 0 < m → (qs : List (Question A)) → Without m qs → firstNo qs x ≡ m → ⊥
+  never m some [] h e = omega (arith, none, e)
+  never m some (q ∷ qs) h e = go (q .asks x) refl (never m some qs (h .1))
     where
-      go : (b : Bool) → q .asks x ≡ b → firstNo qs x < m → firstNo (q ∷ qs) x < m
-      go true a ih = rw (passes q qs a) ih
-      go false a ih = rw (fails q qs a) (h .0)
+      go : (b : Bool) → q .asks x ≡ b → (firstNo qs x ≡ m → ⊥) → ⊥
+      go true a ih = ih (sym (passes q qs a) ∙ e)
+      go false a ih = eqb-false (q .number) m (h .0) (sym (fails q qs a) ∙ e)
 
   -- no "no": every answer is yes
   pub passed : (qs : List (Question A)) → Numbered qs → firstNo qs x ≡ 0 → AllYes qs x

@@ -19,7 +19,7 @@ use Rattle.model.specs.Record.{listBytes, recordBytes, carriedLength, carriedK,
 use Rattle.model.specs.Record.{headQuestions, tailQuestions, askedNumber, acceptNumber}
 use Rattle.model.specs.Calls.{ifAccepted, over, writeNumber, writeRecord}
 use Rattle.laws.specs.Members.{Every}
-use Rattle.questions.specs.FirstNo.{below, then-zero}
+use Rattle.questions.specs.FirstNo.{then-zero}
 use Rattle.accepted.specs.Demands.{NoPolicy, some-policy}
 use Rattle.asked.specs.Asked.{asked-says, before-28}
 use Rattle.record.specs.Lengths.{headBytes, head-length, record-is, record-length, book-length, count-most, count-some}
@@ -93,8 +93,7 @@ accepted-policy bs z = let a = accept-says bs z in some-policy (carriedBook bs) 
 pub accept-28 : (bs : List ℕ) → firstNo headQuestions bs ≡ 0 → bookNumber (carriedBook bs) ≡ 0 → 1 ≤ carriedK bs → carriedK bs ≤ 64
     → (acceptNumber bs ≡ 28) ↔ NoPolicy (carriedBook bs)
 unfolding acceptNumber
-accept-28 bs head ok low high =
-    rw head (before-28 (carriedBook bs) (carriedK bs) ok low high _ (λ e. omega (arith, e, below bs 28 (omega arith) tailQuestions (omega arith))))
+accept-28 bs head ok low high = rw head (before-28 (carriedBook bs) (carriedK bs) ok low high bs tailQuestions (refl, (refl, tt)))
 
 -- what is written is accepted, and carries what it was written for
 pub record WrittenAccepted (ws : Words) (k : ℕ) : Type 0 where

@@ -1,12 +1,12 @@
 -- The entries of the first c actions are filled, and j is the first line of action c.
 -- Assumes nothing.
-use mathlib.Core.Path.{_≡_, sym, _∙_, subst}
+use mathlib.Core.Path.{_≡_, subst}
 use Prim.Native.Nat.{_-_, _≤_, _<_}
 use native.Mathlib.Omega.{arith}
 use Rattle.model.specs.Model.{actionCount, actionLine}
 use Rattle.accepted.specs.Facts.{accepted}
 use Rattle.index.specs.Index.{ActionAt}
-use Rattle.index.proofs.Lines.{line-start}
+use Rattle.index.proofs.Lines.{entered}
 use Rattle.nexts.specs.Nexts.{NextsTo}
 use Rattle.nexts.proofs.Rows.{one-more}
 use borrow.Author.Needs.{needs}
@@ -24,7 +24,7 @@ count-requires : tie.Need-count-requires Inv-loop μ-loop
 count-requires c κs = search needs
 
 state : (c : tie.After-count Inv-loop μ-loop) → c .before .args .p < 64
-state c = let s = c .before in omega (arith, s .pre .1, accepted (s .args .b .now) (s .pre .0 .checked .ok) .sizes .s-high)
+state c = let s = c .before in entered (s .pre .0) (s .args .p) (s .pre .1) .small
 
 mul-j : tie.Need-mul-j Inv-loop μ-loop
 mul-j c = omega (arith, state c)
@@ -35,13 +35,8 @@ element-copy-out-j c = omega (arith, state c)
 loop-holds : tie.Need-loop-holds Inv-loop μ-loop
 loop-holds c =
     let s = c .before .before in
-    let ws = s .args .b .now in (
-      omega arith,
-      state (c .before),
-      omega (arith, c .before .count .ensures, accepted ws (s .pre .0 .checked .ok) .counts-high (s .args .p) (s .pre .1)),
-      s .pre .2,
-      s .pre .0 .index .line (s .args .p) (s .pre .1) ∙ sym (line-start ws (s .args .p)),
-    )
+    let e = entered (s .pre .0) (s .args .p) (s .pre .1) in
+    (omega arith, e .small, omega (arith, c .before .count .ensures, e .few), s .pre .2, e .first)
 
 -- action c and its first line
 here : (c : tie.In-loop Inv-loop μ-loop) → let l = c .before in

@@ -1,15 +1,14 @@
 -- The entries of the feasible ones of the first c actions are filled, and j is the first line of action c.
 -- Assumes nothing.
-use mathlib.Core.Path.{_≡_, sym, _∙_, subst}
+use mathlib.Core.Path.{_≡_, sym, subst}
 use mathlib.Core.Logic.{⊎-elim}
 use Prim.Native.Nat.{_+_, _-_, _≤_, _<_}
 use native.Mathlib.Omega.{arith}
 use Rattle.model.specs.Model.{Words, actionCount, actionLine}
-use Rattle.accepted.specs.Facts.{accepted}
 use Rattle.accepted.specs.Options.{Feasible, to-option}
 use Rattle.book.proofs.Words.{no, yes′}
 use Rattle.index.specs.Index.{ActionAt}
-use Rattle.index.proofs.Lines.{line-start}
+use Rattle.index.proofs.Lines.{entered}
 use Rattle.costs.proofs.Sums.{read64}
 use Rattle.table.specs.Table.{FilledTo}
 use Rattle.table.proofs.Rows.{filled-none, filled-more, filled-skip, off-none, on-feasible}
@@ -31,7 +30,7 @@ unit-requires : tie.Need-unit-requires Inv-loop μ-loop
 unit-requires c κs = search needs
 
 state : (c : tie.After-count Inv-loop μ-loop) → c .before .args .p < 64
-state c = let s = c .before in omega (arith, s .pre .1, accepted (s .args .b .now) (s .pre .0 .checked .ok) .sizes .s-high)
+state c = let s = c .before in entered (s .pre .0) (s .args .p) (s .pre .1) .small
 
 mul-j : tie.Need-mul-j Inv-loop μ-loop
 mul-j c = omega (arith, state (c .before))
@@ -42,12 +41,12 @@ element-copy-out-j c = omega (arith, state (c .before))
 loop-holds : tie.Need-loop-holds Inv-loop μ-loop
 loop-holds c =
     let s = c .before .before .before in
-    let ws = s .args .b .now in (
+    let e = entered (s .pre .0) (s .args .p) (s .pre .1) in (
       omega arith,
-      state (c .before .before),
-      omega (arith, c .before .before .count .ensures, accepted ws (s .pre .0 .checked .ok) .counts-high (s .args .p) (s .pre .1)),
-      filled-none ws (s .args .p) (s .args .v .now) (s .args .q .now) (s .pre .4),
-      s .pre .0 .index .line (s .args .p) (s .pre .1) ∙ sym (line-start ws (s .args .p)),
+      e .small,
+      omega (arith, c .before .before .count .ensures, e .few),
+      filled-none (s .args .b .now) (s .args .p) (s .args .v .now) (s .args .q .now) (s .pre .4),
+      e .first,
     )
 
 cast-has8 : tie.Need-cast-has8 Inv-loop μ-loop
