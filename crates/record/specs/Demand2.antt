@@ -12,7 +12,7 @@ use lib.Signed.{mag}
 use lib.ListN.{length, drop, take-append-drop}
 use lib.Seq.{drop-at}
 use Rattle.model.specs.Model.{Words, stateCount}
-use Rattle.model.specs.Questions.{firstNo, andThen, bookNumber}
+use Rattle.model.specs.Questions.{firstNo, bookNumber}
 use Rattle.model.specs.Policy.{Policy, isPolicy, hasPolicy}
 use Rattle.model.specs.Order.{ranking}
 use Rattle.model.specs.Record.{listBytes, recordBytes, carriedLength, carriedK, carriedCount, carriedBook}
