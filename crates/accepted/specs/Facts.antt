@@ -1,7 +1,7 @@
 -- What the thirteen questions say of a book that passes them all: of its sizes, of each state p, and of each action c of state p.
 -- Assumes nothing.
 use mathlib.Core.Path.{_≡_}
-use mathlib.Core.Bool.{Bool, true, false, cond}
+use mathlib.Core.Bool.{Bool, true}
 use Prim.Native.Nat.{ℕ, _+_, _*_, _^_, _≤_, _<_}
 use native.Mathlib.Nat.{le-trans}
 use native.Mathlib.Omega.{arith}
@@ -10,7 +10,7 @@ use lib.Dec.{leb, eqb}
 use Rattle.model.specs.Lists.{all, maxTo}
 use Rattle.model.specs.Model.{Words, word, scale, horizon, lineCount, stateCount, stage, actionCount, left, right}
 use Rattle.model.specs.Model.{branches, lineAfter, stateLine, actionLine}
-use Rattle.model.specs.Questions.{firstNo, mostLast, mostAt, fewestBranches, mostBranches, branchesInside, countAllowed, countsAllowed, everyAction}
+use Rattle.model.specs.Questions.{firstNo, mostActions, fewestBranches, mostBranches, branchesInside, countAllowed, countsAllowed, everyAction}
 use Rattle.model.specs.Questions.{branchesAllowed, linesAllowed, nextsAllowed, weightsAllowed, openSize, largestCost, costsBounded, sizeQuestions, actionQuestions, bookNumber}
 use Rattle.questions.specs.Ranges.{and-true, all-at, all-same, max-least, inside-range}
 use Rattle.questions.specs.FirstNo.{AllYes, passed, both-zero}
@@ -19,7 +19,7 @@ use Rattle.questions.specs.Sizes.{Sized, sized}
 pub record Accepted (ws : Words) : Type 0 where
   -- 1 to 7
   pub sizes : Sized ws
-  -- 8: "1 to 8 choices a post"
+  -- 8: "1 to 8 choices a post", at stage H too
   pub counts-low : (p : ℕ) → p < stateCount ws → 1 ≤ actionCount ws p
   pub counts-high : (p : ℕ) → p < stateCount ws → actionCount ws p ≤ 8
   -- 9: "is every r as allowed, do all their lines fit"
@@ -37,18 +37,9 @@ pub record Accepted (ws : Words) : Type 0 where
 
 -- ---- 8
 
-most-bound : (n h : ℕ) → mostAt n h ≤ 8
-most-bound n h = go (eqb n h)
-  where
-    go : (b : Bool) → cond b mostLast 8 ≤ 8
-    go true = omega arith
-    go false = omega arith
-
-count-range : (ws : Words) → countsAllowed ws ≡ true → (p : ℕ) → p < stateCount ws
-    → (1 ≤ actionCount ws p) × (actionCount ws p ≤ mostAt (stage ws p) (horizon ws))
+count-range : (ws : Words) → countsAllowed ws ≡ true → (p : ℕ) → p < stateCount ws → (1 ≤ actionCount ws p) × (actionCount ws p ≤ mostActions)
 unfolding countsAllowed countAllowed actionCount
-count-range ws e p l =
-    inside-range 1 (mostAt (stage ws p) (horizon ws)) (word ws (4 + horizon ws + p)) (all-at (stateCount ws) (countAllowed ws) e p l)
+count-range ws e p l = inside-range 1 mostActions (word ws (4 + horizon ws + p)) (all-at (stateCount ws) (countAllowed ws) e p l)
 
 -- ---- 9 to 12
 
@@ -108,7 +99,7 @@ accepted ws ok =
     record {
       sizes = sized ws (both .0);
       counts-low = λ p l. count-range ws (y .0) p l .0;
-      counts-high = λ p l. le-trans (count-range ws (y .0) p l .1) (most-bound (stage ws p) (horizon ws));
+      counts-high = λ p l. count-range ws (y .0) p l .1;
       branches-allowed = nine;
       branches-most = λ p c l k. most-branches ws (stage ws p) (actionLine ws p c) (nine p c l k);
       branches-last = λ p c l k. no-branches ws (stage ws p) (actionLine ws p c) (nine p c l k);

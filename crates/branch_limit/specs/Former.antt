@@ -3,17 +3,11 @@
 -- Assumes nothing.
 use Prim.Native.Nat.{ℕ, _≤_, _<_}
 use mathlib.Core.Bool.{Bool, _&&_, cond}
-use mathlib.Core.List.{List, map}
-use lib.IntN.{ℤ, pos}
+use mathlib.Core.List.{map}
+use lib.IntN.{pos}
 use lib.Dec.{eqb, leb}
-use lib.ListN.{length}
-use Rattle.model.specs.Lists.{forEach}
 use Rattle.model.specs.Model.{Words, horizon, lineCount, stateCount, stage, actionCount, left, branches, lineAfter, stateLine, actionLine}
-use Rattle.model.specs.Questions.{Question, firstNo, andThen, inside, fewestBranches, mostBranches, everyAction, bookQuestions}
-use Rattle.model.specs.Policy.{Policy}
-use Rattle.model.specs.Order.{ranking, rankingCosts}
-use Rattle.model.specs.Record.{recordBytes, carriedK, carriedBook, countQuestions, planQuestions, headQuestions, tailQuestions}
-use Rattle.model.specs.Calls.{ifAccepted, over, roomOf, roomQuestions, writeQuestions}
+use Rattle.model.specs.Questions.{Question, firstNo, inside, fewestBranches, mostBranches, everyAction, bookQuestions}
 
 -- "no choice has more than 6 lines below its first": no action before stage H, reached or not, has more transitions than the limit
 abbrev pub WithinLimit : Words → Type 0
@@ -45,29 +39,3 @@ formerQuestion q = cond (eqb (q .number) 9) (record { number = 9; asks = linesWi
 -- the number of the first "no" of the questions 1 to 13, or 0
 unfoldable pub formerNumber : Words → ℕ
 formerNumber ws = firstNo (map formerQuestion bookQuestions) ws
-
-unfoldable pub formerAsked : Words → ℕ → ℕ
-formerAsked ws k = andThen (formerNumber ws) (andThen (firstNo countQuestions k) (firstNo planQuestions ws))
-
--- ranking: its number, and the two lent slices afterwards
-unfoldable pub formerRankNumber : Words → ℕ → List ℤ → List ℕ → ℕ
-formerRankNumber ws k costs plans = andThen (formerAsked ws k) (firstNo (roomQuestions ws) (roomOf k costs plans))
-
-unfoldable pub formerRankCosts : Words → ℕ → List ℤ → List ℕ → List ℤ
-formerRankCosts ws k costs plans = ifAccepted (formerRankNumber ws k costs plans) (over (rankingCosts ws k) costs) costs
-
-unfoldable pub formerRankPlans : Words → ℕ → List ℤ → List ℕ → List ℕ
-formerRankPlans ws k costs plans =
-    ifAccepted (formerRankNumber ws k costs plans) (over (forEach (λ (p : Policy). p) (ranking ws k)) plans) plans
-
--- writing: its number, and the lent slice afterwards
-unfoldable pub formerWriteNumber : Words → ℕ → ℕ → ℕ
-formerWriteNumber ws k room = andThen (formerAsked ws k) (firstNo (writeQuestions ws k) room)
-
-unfoldable pub formerWriteRecord : Words → ℕ → List ℕ → List ℕ
-formerWriteRecord ws k slice = ifAccepted (formerWriteNumber ws k (length slice)) (over (recordBytes ws k) slice) slice
-
--- accepting a record
-unfoldable pub formerAcceptNumber : List ℕ → ℕ
-formerAcceptNumber bs =
-    andThen (firstNo headQuestions bs) (andThen (formerAsked (carriedBook bs) (carriedK bs)) (firstNo tailQuestions bs))

@@ -12,15 +12,14 @@ use lib.IntN.{ℤ, pos}
 use Rattle.model.specs.Model.{Words, horizon, lineCount, stateCount, stage, actionCount, left, branches, lineAfter, stateLine, actionLine}
 use Rattle.model.specs.Questions.{firstNo, inside, fewestBranches, mostBranches, branchesAllowed, linesAllowed, sizeQuestions, actionQuestions}
 use Rattle.model.specs.Questions.{bookNumber}
-use Rattle.model.specs.Record.{carriedBook, askedNumber, acceptNumber}
-use Rattle.model.specs.Calls.{roomOf, rankNumber, rankCosts, rankPlans, writeNumber, writeRecord}
+use Rattle.model.specs.Record.{carriedBook, acceptNumber}
 use Rattle.questions.specs.Ranges.{inside-wider}
 use Rattle.questions.specs.FirstNo.{passes, fails, passed, after, then-yes, both-zero, rest-same, answers-same}
 use Rattle.questions.specs.Stages.{stage-before}
+use Rattle.questions.specs.Calls.{acceptNumberBy, SameCalls, same-calls, same-accept}
 use Rattle.accepted.specs.Facts.{each-action, every-same, most-branches, lines-say, accepted}
 use Rattle.record.specs.Passed.{accept-says}
-use Rattle.branch_limit.specs.Former.{branchesWithin, linesWithin, WithinLimit, formerMost, formerQuestion, formerNumber, formerAsked}
-use Rattle.branch_limit.specs.Former.{formerRankNumber, formerRankCosts, formerRankPlans, formerWriteNumber, formerWriteRecord, formerAcceptNumber}
+use Rattle.branch_limit.specs.Former.{branchesWithin, linesWithin, WithinLimit, formerMost, formerQuestion, formerNumber}
 
 -- ---- question 9 with other limits
 
@@ -97,41 +96,15 @@ module _ (ws : Words) where
 
 -- ---- the calls
 
-module _ (ws : Words) (few : WithinLimit ws) (k : ℕ) where
-  pub asked-same : formerAsked ws k ≡ askedNumber ws k
-  unfolding formerAsked askedNumber
-  asked-same = rw (number-same ws few)
-
-  -- the same list
-  pub rank-same : (costs : List ℤ) (plans : List ℕ) → formerRankNumber ws k costs plans ≡ rankNumber ws (roomOf k costs plans)
-  unfolding formerRankNumber rankNumber
-  rank-same costs plans = rw asked-same
-
-  pub costs-same : (costs : List ℤ) (plans : List ℕ) → formerRankCosts ws k costs plans ≡ rankCosts ws k costs plans
-  unfolding formerRankCosts rankCosts
-  costs-same costs plans = rw (rank-same costs plans)
-
-  pub plans-same : (costs : List ℤ) (plans : List ℕ) → formerRankPlans ws k costs plans ≡ rankPlans ws k costs plans
-  unfolding formerRankPlans rankPlans
-  plans-same costs plans = rw (rank-same costs plans)
-
-  -- the same record bytes
-  pub write-same : (room : ℕ) → formerWriteNumber ws k room ≡ writeNumber ws k room
-  unfolding formerWriteNumber writeNumber
-  write-same room = rw asked-same
-
-  pub record-same : (slice : List ℕ) → formerWriteRecord ws k slice ≡ writeRecord ws k slice
-  unfolding formerWriteRecord writeRecord
-  record-same slice = rw (write-same _)
-
--- ---- filed records
+-- the same list and record bytes, and the same answer of every other call
+pub calls-same : (ws : Words) → WithinLimit ws → SameCalls formerNumber ws
+calls-same ws few = same-calls formerNumber ws (number-same ws few)
 
 module _ (bs : List ℕ) where
   -- "No filed record is affected.": one whose book has no r above the limit gets the same number
-  pub accept-same : WithinLimit (carriedBook bs) → formerAcceptNumber bs ≡ acceptNumber bs
-  unfolding formerAcceptNumber acceptNumber
-  accept-same few = rw (asked-same (carriedBook bs) few _)
+  pub accept-same : WithinLimit (carriedBook bs) → acceptNumberBy formerNumber bs ≡ acceptNumber bs
+  accept-same few = same-accept formerNumber bs (number-same (carriedBook bs) few)
 
   -- one that is accepted was accepted before
-  pub accept-before : acceptNumber bs ≡ 0 → formerAcceptNumber bs ≡ 0
+  pub accept-before : acceptNumber bs ≡ 0 → acceptNumberBy formerNumber bs ≡ 0
   accept-before ok = accept-same (within (carriedBook bs) (accept-says bs ok .asked .ok)) ∙ ok

@@ -1,11 +1,10 @@
 // The questions 1 to 8 of a book: its sizes and its counts.
 use book::Sizes;
-use book::Stage;
 ghost use mathlib.Core.Path.{_≡_};
 ghost use Prim.Native.Nat.{_<_, _≤_};
 ghost use lib.ListN.{length};
 ghost use Rattle.model.specs.Model.{word};
-ghost use Rattle.model.specs.Questions.{firstNo, countInside, sizesAllowed, lengthAllowed, countsAllowed, sizeQuestions};
+ghost use Rattle.model.specs.Questions.{firstNo, sizesAllowed, lengthAllowed, countsAllowed, sizeQuestions};
 ghost use Rattle.questions.specs.Sizes.{Sized};
 ghost use Rattle.book.specs.Read.{Headed, SizesAre};
 
@@ -61,37 +60,13 @@ pub fn size_number(b: &[i32]) -> u32
     0
 }
 
-// The most actions of a state of stage H, and of any other.
-const MOST_LAST: i32 = 1;
-
+// The most actions of a state, at stage H as at any other.
 const MOST_ACTIONS: i32 = 8;
 
-// 8, of one state of stage n, whose count is word i.
-fn count_allowed(b: &[i32], i: usize, n: usize, h: usize) -> bool
-    requires { ⌜ i < length (now b) ⌝ }
-    ensures { λ r. ⌜ r ≡ countInside (word (now (b .entry)) i) n h ⌝ }
-{
-    if n == h {
-        return book::word_in(b, i, 1, MOST_LAST);
-    }
-    book::word_in(b, i, 1, MOST_ACTIONS)
-}
-
-// 8, of every state.
+// 8
 pub fn counts_allowed(b: &[i32], z: Sizes) -> bool
     requires { ⌜ Sized (now b) × SizesAre (now b) z ⌝ }
     ensures { λ r. ⌜ r ≡ countsAllowed (now (b .entry)) ⌝ }
 {
-    let h = z.h;
-    let s = z.s;
-    let mut t = Stage { n: 0, end: 1 };
-    let mut p: usize = 0;
-    while p < s {
-        t = book::stage_for(b, z, t, p);
-        if !count_allowed(b, 4 + h + p, t.n, h) {
-            return false;
-        }
-        p = p + 1;
-    }
-    true
+    book::words_in(b, 4 + z.h, z.s, 1, MOST_ACTIONS)
 }

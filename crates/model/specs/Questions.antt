@@ -1,5 +1,5 @@
 -- The questions 1 to 13 of a book. "Each is put to the whole input before the next. The first "no" gives its number; 0 means accepted."
--- Request 2.1 changes 9 and 12, request 2.3 changes 9, request 2.7 changes 10 and 13.
+-- Request 2.1 changes 9 and 12, request 2.3 changes 9, request 2.7 changes 10 and 13, request 2.9 changes 8.
 -- Assumes nothing.
 use Prim.Native.Nat.{ℕ, zero, suc, _+_, _*_, _^_}
 use mathlib.Core.Bool.{Bool, true, false, _&&_, _||_, cond}
@@ -31,17 +31,11 @@ andThen (suc m) n = suc m
 abbrev pub inside : ℤ → ℤ → ℤ → Bool
 inside lo hi z = leZ lo z && leZ z hi
 
--- ---- limits of an action and of a state's actions, for a state of stage n where h is the horizon
+-- ---- limits of a state's actions and of an action, for a state of stage n where h is the horizon
 
--- "1 to 8 choices a post"; "At stage H each post has one choice"
-abbrev pub mostLast : ℕ
-mostLast = 1
-
-abbrev pub mostAt : ℕ → ℕ → ℕ
-mostAt n h = cond (eqb n h) mostLast 8
-
-abbrev pub countInside : ℤ → ℕ → ℕ → Bool
-countInside z n h = inside (pos 1) (pos (mostAt n h)) z
+-- "1 to 8 choices a post"; 2.9: "Stage H posts may now have 1 to 8 choices, .. for the depots"
+abbrev pub mostActions : ℕ
+mostActions = 8
 
 -- 2.1: "Before stage H, r may be 0"; 2.3: "r is at most 6"; "with r = 0" at stage H
 abbrev pub fewestBranches : ℕ
@@ -71,9 +65,9 @@ sizesAllowed ws =
 unfoldable pub lengthAllowed : Words → Bool
 lengthAllowed ws = eqb (length ws) (4 + horizon ws + stateCount ws + 2 * lineCount ws)
 
--- "Are the choice counts as allowed, 1 at stage H?": of state p, and of all
+-- "Are the choice counts as allowed": of state p, and of all; 2.9: "Check 8 loses its second half"
 unfoldable pub countAllowed : Words → ℕ → Bool
-countAllowed ws p = countInside (word ws (4 + horizon ws + p)) (stage ws p) (horizon ws)
+countAllowed ws p = inside (pos 1) (pos mostActions) (word ws (4 + horizon ws + p))
 
 unfoldable pub countsAllowed : Words → Bool
 countsAllowed ws = all (stateCount ws) (countAllowed ws)

@@ -3,3 +3,4 @@ pub mod FirstNo
 pub mod Answers
 pub mod Stages
 pub mod Sizes
+pub mod Calls

@@ -382,7 +382,7 @@ spread-from x (t ∷ ts) W s w k = spread-from x ts (addTo (t .next) (x * t .wei
 
 module _ (act : ℕ → ℕ → Action) where
   -- the states known to be reached after the first k bytes, and those found after them
-  reached-on : (k p : ℕ) (reach : List ℕ) (bs : Policy)
+  pub reached-on : (k p : ℕ) (reach : List ℕ) (bs : Policy)
       → reachedFrom act (p + k) (reachedFrom act p reach (take k bs)) (drop k bs) ≡ reachedFrom act p reach bs
   reached-on zero p reach bs = rw (add-zero p)
   reached-on (suc k) p reach [] = refl

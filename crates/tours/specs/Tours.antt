@@ -1,12 +1,12 @@
--- The twelve tours of document 01, as document 02 changes them, and books with closed choices: two tables of calls and answers, and one proof, by
--- computation, that the definitions yield them.
+-- The twelve tours of document 01, as document 02 changes them, books with closed choices and books with depots: three tables of calls and answers, and one
+-- proof, by computation, that the definitions yield them.
 -- Assumes nothing.
 use Prim.Native.Nat.{ℕ, _+_, _*_}
 use mathlib.Core.Path.{_≡_, refl}
 use mathlib.Core.List.{List, [], _∷_, _++_, map}
 use lib.IntN.{pos, negsuc}
 use lib.ListN.{set, replicate}
-use Rattle.model.specs.Lists.{forEach}
+use Rattle.model.specs.Lists.{forEach, upFrom}
 use Rattle.model.specs.Bytes.{bytes, signedBytes}
 use Rattle.model.specs.Model.{Words, word, scale, horizon, lineCount, stageSize, firstState, stateCount, stage, togo, actionCount, left, right}
 use Rattle.model.specs.Model.{branches, lineAfter, skip, stateLine, actionLine, transitionAt, readAction, action, options}
@@ -180,9 +180,53 @@ closings =
     ∷ record { call = check (bookE 200000); due = good }
     ∷ []
 
+-- ---- depots (request 2.9)
+
+-- A with a second closing choice at post 2: the closing costs there are y and z
+abbrev pub bookDepots : ℕ → ℕ → Words
+bookDepots y z = words (2 ∷ 1 ∷ 8 ∷ 1 ∷ 2 ∷ 2 ∷ 1 ∷ 2 ∷ 2 ∷ 0 ∷ 1 ∷ 1 ∷ 0 ∷ 0 ∷ 0 ∷ 0 ∷ 10 ∷ 1 ∷ 1 ∷ 12 ∷ 2 ∷ 4 ∷ y ∷ z ∷ [])
+
+-- D = 1, H = 1, two posts: one line, and n closing choices of cost 7
+abbrev pub bookRow : ℕ → Words
+bookRow n = words ((1 ∷ 1 ∷ (2 + n) ∷ 1 ∷ 1 ∷ 1 ∷ n ∷ 1 ∷ 0 ∷ []) ++ replicate n 0 ++ (5 ∷ 1 ∷ []) ++ replicate n 7)
+
+abbrev pub depots : List Tour
+depots =
+    -- "a plan's byte at a reached last post is the depot chosen": the plan 0 0 1 has the days 0, 1 of weight 1 and cost 10 + 4, and 0, 2 of weight 1 and
+    -- cost 10 + 7: 14 + 17 = 31
+    record {
+      call = rank (bookDepots 9 7) (roomFor 64 3);
+      due = listed (pos 31 ∷ pos 32 ∷ pos 33 ∷ []) ((0 ∷ 0 ∷ 1 ∷ []) ∷ (1 ∷ 0 ∷ 255 ∷ []) ∷ (0 ∷ 0 ∷ 0 ∷ []) ∷ []);
+    }
+    ∷ record { call = least (bookDepots 9 7); due = cost (pos 31) }
+    ∷ record { call = value (bookDepots 9 7) (0 ∷ 0 ∷ 1 ∷ []); due = cost (pos 31) }
+    ∷ record { call = value (bookDepots 9 7) (0 ∷ 0 ∷ 2 ∷ []); due = refused 17 }
+    -- depots that cost the same: the lower number first
+    ∷ record {
+      call = rank (bookDepots 7 7) (roomFor 2 3);
+      due = listed (pos 31 ∷ pos 31 ∷ []) ((0 ∷ 0 ∷ 0 ∷ []) ∷ (0 ∷ 0 ∷ 1 ∷ []) ∷ []);
+    }
+    -- a closed depot (2.7), and a post with every depot closed
+    ∷ record {
+      call = rank (bookDepots 200000 7) (roomFor 64 3);
+      due = listed (pos 31 ∷ pos 32 ∷ []) ((0 ∷ 0 ∷ 1 ∷ []) ∷ (1 ∷ 0 ∷ 255 ∷ []) ∷ []);
+    }
+    ∷ record { call = rank (bookDepots 200000 200000) (roomFor 64 3); due = listed (pos 32 ∷ []) ((1 ∷ 0 ∷ 255 ∷ []) ∷ []) }
+    -- "1 to 8 choices"
+    ∷ record { call = check (bookRow 0); due = refused 8 }
+    ∷ record { call = check (bookRow 1); due = good }
+    ∷ record { call = check (bookRow 8); due = good }
+    ∷ record { call = check (bookRow 9); due = refused 8 }
+    -- eight depots and H = 1: eight plans, which differ in the depot alone
+    ∷ record {
+      call = rank (bookRow 8) (roomFor 9 2);
+      due = listed (replicate 8 (pos 12)) (map (λ (c : ℕ). 0 ∷ c ∷ []) (upFrom 0 8));
+    }
+    ∷ []
+
 -- ---- the proof
 
-pub yield : map (λ (t : Tour). answer (t .call)) (tours ++ closings) ≡ map (λ (t : Tour). t .due) (tours ++ closings)
+pub yield : map (λ (t : Tour). answer (t .call)) (tours ++ closings ++ depots) ≡ map (λ (t : Tour). t .due) (tours ++ closings ++ depots)
 unfolding word scale horizon lineCount stageSize firstState stateCount stage togo actionCount left right branches lineAfter skip stateLine actionLine
     transitionAt readAction action options firstNo sizesAllowed lengthAllowed countAllowed countsAllowed everyAction branchesAllowed linesAllowed
     costAllowed nextsAllowed weightSum weightsAllowed largestCost costsBounded bookNumber isPolicy policies hasPolicy taken paths policyCost

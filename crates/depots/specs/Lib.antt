@@ -1,0 +1,3 @@
+pub mod Former
+pub mod Same
+pub mod Choice
