@@ -1,6 +1,6 @@
-"""Random books for the tests: good ones of many shapes, with stops and closed choices and without, broken ones, and plans of them. All is drawn from the
-random.Random that is handed in. The stored cases hold books of most shapes, so a shape, a fault and the lists SHAPES and BREAKS keep what is drawn of them from
-a seed."""
+"""Random books for the tests: good ones of many shapes, with stops, closed choices and depots and without, broken ones, and plans of them. All is drawn from
+the random.Random that is handed in. The stored cases hold books of most shapes, so a shape, a fault and the lists SHAPES and BREAKS keep what is drawn of them
+from a seed."""
 
 import itertools
 
@@ -542,7 +542,113 @@ def closed_vast(rng):
 
 
 WITH_CLOSED = [closed, closed_last, closed_stage, all_closed, closed_unreached, one_plan, dead_ends, closed_and_ties, closed_wide, closed_deep, closed_edge]
-ALL_SHAPES = SHAPES + WITH_CLOSED
+
+
+# ---- shapes with depots: more than one choice at a post of stage H
+
+MOST_CHOICES = 8
+
+
+def last_posts(book):
+    """The posts of stage H."""
+    return range(book.first[book.stages], book.posts)
+
+
+def depots_at(words):
+    """The choices of those posts of stage H that have more than one."""
+    book = ref.Book(words)
+    return [(post, c) for post in last_posts(book) if book.counts[post] > 1 for c in range(book.counts[post])]
+
+
+def any_cost(rng, words):
+    """Closing costs beside one that a post has: the same, one second more or less, or any."""
+    limit = most_cost(words[0], words[1])
+    return lambda old: max(-limit, min(limit, rng.choice([old, old + 1, old - 1, rng.randint(-limit, limit), old + rng.randint(-50, 50)])))
+
+
+def with_depots(rng, words, count, cost):
+    """The book with count(post) closing choices at each post of stage H, in any order."""
+    book = ref.Book(words)
+    for post in last_posts(book):
+        here = book.choices[post]
+        here += [(cost(here[0][0]), []) for _ in range(count(post) - len(here))]
+        rng.shuffle(here)
+    return build(book.scale, book.sizes, book.choices)
+
+
+def some_depots(rng, words, cost=None):
+    """The book with more than one closing choice at one last post at least."""
+    book = ref.Book(words)
+    counts = {post: rng.choice([1, 2, 2, 3, 5, MOST_CHOICES]) for post in last_posts(book)}
+    counts[rng.choice(last_posts(book))] = rng.choice([2, 3, MOST_CHOICES])
+    return with_depots(rng, words, counts.get, cost or any_cost(rng, words))
+
+
+def depots(rng):
+    return some_depots(rng, without_closed(rng))
+
+
+def depots_eight(rng):
+    """H = 1, and eight closing choices at each last post."""
+    scale = scale_of(rng)
+    words = fill(rng, scale, [1, rng.randint(1, 3)], 3, 3, costs_within(rng, most_cost(scale, 1)), rng.choice([1, 4]))
+    return with_depots(rng, words, lambda post: MOST_CHOICES, any_cost(rng, words))
+
+
+def depots_alone(rng):
+    """One choice at every post before stage H: plans differ in depots only."""
+    scale, stages = scale_of(rng), rng.randint(1, 4)
+    return some_depots(rng, fill(rng, scale, random_sizes(rng, stages, 3), 1, 3, costs_within(rng, most_cost(scale, stages)), 1))
+
+
+def depots_and_ties(rng):
+    """Depots of one post cost the same, or a second less."""
+    words = rng.choice([ties, ties, stops_and_ties, crossing])(rng)
+    return some_depots(rng, words, lambda old: rng.choice([old, old, old, max(old - 1, -most_cost(words[0], words[1]))]))
+
+
+def depots_closed(rng):
+    """Some depots are closed, in some books all of a post; by chance other choices too."""
+    words = depots(rng)
+    words = close(words, some(rng, depots_at(words), rng.choice([0.2, 0.5, 0.9])))
+    return partly_closed(rng, words) if rng.random() < 0.3 else words
+
+
+def depots_unreached(rng):
+    """Only posts that no plan reaches have more than one closing choice."""
+    while True:
+        words = rng.choice([unreached, unreached, small, few, stops_unreached])(rng)
+        book = ref.Book(words)
+        far = [post for post in last_posts(book) if post not in reachable(book)]
+        if far:
+            return with_depots(rng, words, lambda post: rng.randint(2, MOST_CHOICES) if post in far else 1, any_cost(rng, words))
+
+
+def depots_wide(rng):
+    """Up to sixteen last posts, with up to eight depots each; most plans reach few of them."""
+    scale, stages = scale_of(rng), rng.randint(1, 3)
+    sizes = random_sizes(rng, stages - 1, 3) + [rng.choice([8, 15, 16])]
+    return some_depots(rng, fill(rng, scale, sizes, 4, 2, costs_within(rng, most_cost(scale, stages)), rng.choice([2, 12])))
+
+
+def depots_edge(rng):
+    """A depot costs as much as question 13 allows, or a second more, at a post that is reached or not."""
+    scale, stages = edge_sizes(rng)
+    limit = most_cost(scale, stages)
+    words = some_depots(rng, fill(rng, scale, random_sizes(rng, stages, 2), 2, 2, lambda r: r.choice([limit, -limit, 0, 1]), 8))
+    return with_cost(words, [rng.choice(depots_at(words))], rng.choice([limit, -limit, limit + 1, -limit - 1]))
+
+
+def depots_vast(rng):
+    """64 posts and up to 2,048 lines, with up to eight depots at each last post."""
+    while True:
+        words = some_depots(rng, rng.choice([vast, stops_vast])(rng))
+        if words[2] <= MOST_LINES:
+            return words if rng.random() < 0.7 else close(words, some(rng, depots_at(words), 0.3))
+
+
+WITH_DEPOTS = [depots, depots_eight, depots_alone, depots_and_ties, depots_closed, depots_unreached, depots_wide, depots_edge]
+ALL_SHAPES = SHAPES + WITH_CLOSED + WITH_DEPOTS
 
 
 # ---- books that the reference can enumerate
@@ -655,6 +761,7 @@ def break_7(rng, words, at):
 
 
 def break_8(rng, words, at):
+    """A count that is not allowed; or one closing choice more than the lines have, a fault of 9."""
     if rng.random() < 0.3:
         words[rng.choice(at.counts[-words[3 + at.stages]:])] = 2
     else:
@@ -748,6 +855,30 @@ def seven(rng):
     r = rng.choice([7, 7, 7, 8, 16, 17])
     parts = weights(rng, rng.randint(7, words[0]), 7) if r == 7 else [1] * r
     return with_row(words, *rng.choice(deciding(ref.Book(words))), list(zip(range(r), parts)))
+
+
+def break_depots(rng, words, at):
+    """A count of depots that is not allowed, or that the lines do not have; or a depot with a line or with a cost that is not allowed."""
+    kind, count, line = rng.randrange(4), rng.choice(at.counts[-words[3 + at.stages]:]), rng.choice(at.last_heads)
+    if kind == 0:
+        words[count] = rng.choice([0, -1, 9, WORST, -WORST - 1])
+    elif kind == 1:
+        words[count] = words[count] % MOST_CHOICES + 1
+    elif kind == 2:
+        words[at.left + line] = rng.choice([1, -1, 6, WORST])
+    else:
+        words[at.right + line] = rng.choice([100001, -100001, ref.CLOSED + 1, WORST, -WORST - 1])
+
+
+BREAKS_DEPOTS = BREAKS[7:10] + [break_depots] * 3
+
+
+def nine(rng):
+    """A last post, reached or not, with nine closing choices or more and a line for each: nothing but question 8 is amiss."""
+    book = ref.Book(rng.choice([depots, depots_alone, depots_unreached])(rng))
+    here = book.choices[rng.choice(last_posts(book))]
+    here += [rng.choice(here) for _ in range(rng.choice([9, 9, 10, 16]) - len(here))]
+    return build(book.scale, book.sizes, book.choices)
 
 
 def wild(rng):

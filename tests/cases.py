@@ -6,7 +6,7 @@
 
 Each rule of document 01 has its cases here: the tours, each question from both sides, which of two comes first, rooms and counts at their limits,
 ties, records with each byte changed, pages, the largest book. After them stand those of document 02: stops, six next posts, the desk, planners' tables, closed
-choices. Breadth is fresh.py's; a few of its kinds are stored too. New cases are added at the end, so that the others keep their numbers.
+choices, depots. Breadth is fresh.py's; a few of its kinds are stored too. New cases are added at the end, so that the others keep their numbers.
 """
 
 import os
@@ -335,9 +335,9 @@ def power_cases():
     yield 'powers', [Command('power', k=d, z=e) for d in (0, 1, 2, 7, 10, 99, 100, 101, 2 ** 32 + 2, 2 ** 64 - 1) for e in (0, 1, 2, 7, 8, 9, 255)]
 
 
-def largest_of(name, counts, low):
-    """64 posts, H = 8, D = 10, 8 choices a post. Each choice of post 0 has 6 lines below its first, the others have those of counts, so that there are 2,048
-    lines. Weights add to a number from low to D."""
+def largest_of(name, counts, low, depots=1):
+    """64 posts, H = 8, D = 10, 8 choices a post before stage H and so many at it. Each choice of post 0 has 6 lines below its first, the others have those of
+    counts, so that there are 2,048 lines. Weights add to a number from low to D."""
     rng, sizes, rows = random.Random(name), [1, 7] + [8] * 7, []
     rng.shuffle(counts)
     counts += [6] * 8
@@ -345,7 +345,7 @@ def largest_of(name, counts, low):
         here = [counts.pop() for _ in range(8 * size)]
         choices = [(rng.randint(-500, 3000), books.nexts(rng, rng.randint(low, 10), sizes[n + 1], r) if r else []) for r in here]
         rows += [choices[i:i + 8] for i in range(0, len(choices), 8)]
-    words = books.build(10, sizes, rows + [[(rng.randint(0, 99), [])] for _ in range(8)])
+    words = books.build(10, sizes, rows + [[(rng.randint(0, 99), []) for _ in range(depots)] for _ in range(8)])
     assert len(words) == ref.LONGEST_BOOK and not ref.check(words)
     return words
 
@@ -915,6 +915,133 @@ def largest_with_closed_cases():
     yield Case('the largest book without a plan', list(kinds.carried(largest_without_plan(), 64, 64)) + [rank(64, 64, 4096)], True)
 
 
+# ---- depots: more than one choice at a post of stage H (2.9 of document 02)
+
+# Post 3 has three depots, of which two cost the same; post 4 has one closing choice; post 5, which no plan with choice 1 of post 2 reaches, has two.
+DEPOTS = books.build(4, [1, 2, 3], [
+    [(7, [(0, 1), (1, 3)]), (9, [(1, 4)])], [(2, [(0, 2), (1, 2)]), (-3, [(0, 4)])], [(5, [(2, 3)]), (6, [(1, 4)])],
+    [(4, []), (1, []), (4, [])], [(6, [])], [(3, []), (-2, [])]])
+
+
+def one_line(*costs, cost=5):
+    """H = 1: post 0 leads to post 1, whose depots have these costs."""
+    return books.build(1, [1, 1], [[(cost, [(0, 1)])], [(x, []) for x in costs]])
+
+
+def row_of_depots(posts, counts, scale=None):
+    """H = 1: post 0 leads to so many of the last posts; each has so many depots, of costs 0, 1 and so on."""
+    scale = scale or posts
+    return books.build(scale, [1, len(counts)], [[(1, to_first(scale, posts))]] + [[(c, []) for c in range(n)] for n in counts])
+
+
+def deep_depots(*costs):
+    """DEEP with these closing costs."""
+    return books.build(100, [1, 2] + [1] * 6, ref.Book(DEEP).choices[:-1] + [[(x, []) for x in costs]])
+
+
+def depot_limits():
+    """(question, what, book) on both sides of the questions 8 to 13 at stage H."""
+    at = books.Places(DEPOTS)
+    for n in (1, 2, 7, 8, 9, 16):
+        yield 8, '%d depots' % n, one_line(*range(n))
+        yield 8, '%d depots at the last post' % n, row_of_depots(2, [1, n])
+        yield 8, '%d depots at the first last post' % n, row_of_depots(2, [n, 1])
+        yield 8, '%d depots at a post that no plan reaches' % n, row_of_depots(1, [1, n])
+    yield 8, 'no depot', books.build(1, [1, 2], [[(5, [(0, 1)])], [(2, [])], []])
+    yield 8, '9 choices before stage H and 9 depots', books.build(1, [1, 1], [[(c, [(0, 1)]) for c in range(9)], [(c, []) for c in range(9)]])
+    for place in (at.counts[-3], at.counts[-1]):
+        yield from each(8, 'word %d, a count of depots:' % place, place, LOW, -1, 0, 1, 2, 3, 4, 8, 9, HIGH, words=DEPOTS)
+    for line in (at.last_heads[0], at.last_heads[1], at.last_heads[-1]):
+        yield from each(9, 'line %d, r of a depot:' % line, at.left + line, LOW, -1, 1, 6, HIGH, words=DEPOTS)
+        yield from each(10, 'line %d, cost of a depot:' % line, at.right + line, LOW, -100001, -100000, 100000, 100001, CLOSED - 1, CLOSED, HIGH, words=DEPOTS)
+    yield 9, 'a depot with a line', books.build(1, [1, 1], [[(5, [(0, 1)])], [(2, []), (1, [(0, 1)])]])
+    yield 9, 'a line for no depot', with_words(DEPOTS, (at.counts[-1], 1))
+    for x in (5000, 5001, -5000, -5001):
+        yield 13, 'cost %d of the last of eight depots' % x, deep_depots(*range(7), x)
+        yield 13, 'cost %d of a depot at a post that no plan reaches' % x, books.build(100, [1] * 7 + [2], [[(1, [(0, 100)])]] * 7 + [[(1, [])], [(2, []), (x, [])]])
+        yield 13, 'cost %d of a depot beside a closed one' % x, deep_depots(CLOSED, x)
+
+
+def depot_list_cases():
+    yield 'depots', thorough(DEPOTS, 1, 2, 64)
+    yield 'eight depots and H 1', thorough(one_line(3, 9, 1, 4, 1, 5, 9, 2), 1, 7, 8, 9, 64)
+    yield 'eight depots that tie', thorough(one_line(*[7] * 8), 1, 5, 8, 64)
+    yield 'eight depots, the later ones better', thorough(one_line(*range(0, -8, -1)), 3, 8)
+    yield 'the first depot is the best', thorough(one_line(*range(8)), 3, 8)
+    yield '64 plans that differ in depots only', thorough(row_of_depots(2, [8, 8]), 63, 64)
+    yield '512 plans that differ in depots only', thorough(row_of_depots(3, [8, 8, 8], 7), 64)
+    yield '512 plans with depots that tie', thorough(books.with_cost(row_of_depots(3, [8, 8, 8]), [(post, c) for post in (1, 2, 3) for c in range(8)], 6), 64)
+    yield 'depots that tie with choices before stage H', thorough(books.build(2, [1, 2], [[(4, [(0, 2)]), (4, [(0, 1), (1, 1)]), (3, [(1, 2)])],
+                                                                                       [(1, []), (2, []), (1, [])], [(2, []), (1, [])]]), 64)
+    yield 'sixteen posts with eight depots', thorough(row_of_depots(1, [8] * 16), 1, 64)
+    yield 'two of sixteen posts with eight depots', thorough(row_of_depots(2, [8] * 16, 9), 64)
+    yield 'depots at a post that no plan reaches', thorough(row_of_depots(1, [1, 8]), 64)
+    yield 'depots after a stop', thorough(books.build(3, [1, 2], [[(4, [(0, 1), (1, 1)]), (1, []), (2, [(1, 2)])], [(5, []), (-9, [])], [(0, []), (0, []), (8, [])]]), 64)
+    yield 'depots of costs at both ends', thorough(one_line(100000, -100000, 99999, -99999, cost=-100000), 64)
+    yield 'depots, H 8', thorough(deep_depots(3, 1, 4, 1, 5), 1, 64)
+
+
+def depot_closed_cases():
+    for post, c in books.every_choice(ref.Book(DEPOTS)):
+        yield 'depots, and choice %d of post %d closed' % (c, post), every_call(books.close(DEPOTS, [(post, c)]), 3)
+    for n in range(8):
+        yield 'seven depots of eight closed, all but %d' % n, every_call(books.close(one_line(*range(8)), [(1, c) for c in range(8) if c != n]), 2)
+    for posts in ([3], [5], [3, 4], [3, 4, 5]):
+        where = [(post, c) for post, c in books.every_choice(ref.Book(DEPOTS)) if post in posts]
+        yield 'every depot closed of %s' % ' and '.join(map(str, posts)), every_call(books.close(DEPOTS, where), 3)
+
+
+def depot_value_cases():
+    """Every plan, and each with every byte from 0 to 8 and 255 at each last post."""
+    slices = sorted({plan[:post] + (c,) + plan[post + 1:] for plan in ref.plans(ref.Book(DEPOTS)) for post in books.last_posts(ref.Book(DEPOTS))
+                     for c in (*range(9), 255)})
+    yield 'plans with each depot', book(DEPOTS) + [c for plan in slices for c in value(plan)]
+    yield 'no plans of a book with depots', book(DEPOTS) + list(not_plans(DEPOTS))
+
+
+def depot_order_cases():
+    """Nine depots, and another question is answered no too; and the same with eight."""
+    for n in (8, 9):
+        words = deep_depots(*range(n))
+        at = books.Places(words)
+        for q, fault in FAULTS.items():
+            other = with_words(words, fault(at))
+            assert ref.check(other) == (min(q, 8) if n == 9 else q)
+            yield '%d depots, and question %d' % (n, q), list(kinds.carried(other, 65, 0, b'1'))
+        yield '%d depots, and a word more' % n, list(kinds.carried(words + [0], 65, 0, b'1'))
+        yield '%d depots, and K 65' % n, list(kinds.carried(words, 65, 0, b'1'))
+
+
+def depot_record_cases():
+    for bit in (1, 64):
+        yield 'the record of a book with depots, each byte with bit %d flipped' % bit, flipped(ref.record(DEPOTS, 3), bit)
+    for k in (2, 64):
+        yield 'other lists for a book with depots, K %d' % k, list(kinds.forged_lists(DEPOTS, k))
+    words = one_line(3, 1, 2)
+    listed = ref.ranking(words, 3)
+    firsts = [row for row in listed if row[1][1] == 0]
+    for name, rows in (('the first depot alone', firsts), ('the first depot three times', firsts * 3), ('the depots in their order', sorted(listed, key=lambda row: row[1])),
+                       ('a depot that is not there', listed[:2] + [(9, (0, 3))]), ('no depot', [(cost, (0, 255)) for cost, _ in listed])):
+        content = kinds.as_record(words, 3, len(rows), rows)
+        yield 'a list with ' + name, [put(content), accept(len(content))] + show(0, len(content))
+    for n in (1, 2, 8, 9):
+        record = ref.record(one_line(*range(n)), 64)
+        yield 'the record of a book with %d depots' % n, [put(record), accept(len(record))] + [c for j in (0, n - 1, n) for c in show(j, len(record))]
+    short = kinds.record_input(random.Random('opening:188'), kinds.WITHOUT_CLOSED)[:BOOK - OUT]
+    yield 'desk: an opening with two closing choices and a line for one', joined(opened(3), ask(0, 1), commit(0), ask(1, 2), opening(short), commit(1), ask(2, 3))
+
+
+def largest_with_depots():
+    """Eight choices at every post, those of stage H too."""
+    return largest_of('largest with depots', [6] * 209 + [2] * 3 + [1] * 228, 10, depots=8)
+
+
+def largest_with_depots_case():
+    words = largest_with_depots()
+    with search.instead_of_enumeration():
+        return Case('the largest book with depots', thorough(words, 1, 64), True)
+
+
 # ---- all of them
 
 DRAWN = {'small': 6, 'deep': 2, 'wide': 1, 'ties': 5, 'few': 3, 'unreached': 3, 'crossing': 6, 'many': 1, 'edge': 2, 'full': 1, 'faults': 6, 'noise': 8}
@@ -925,6 +1052,8 @@ DRAWN_DESKS = {'desk': 10}
 DRAWN_TABLES = {'convert': 24}
 DRAWN_CLOSED = {'closed': 6, 'closed_last': 3, 'closed_stage': 3, 'all_closed': 1, 'closed_unreached': 2, 'one_plan': 3, 'dead_ends': 6, 'closed_and_ties': 4,
                 'closed_wide': 2, 'closed_deep': 3, 'closed_edge': 5, 'closed, faults': 12, 'desk, closed': 4}
+DRAWN_DEPOTS = {'depots': 6, 'depots_eight': 3, 'depots_alone': 3, 'depots_and_ties': 5, 'depots_closed': 5, 'depots_unreached': 2, 'depots_wide': 2,
+                'depots_edge': 5, 'nine': 5, 'depots, faults': 10, 'desk, depots': 3}
 
 
 def made(*groups):
@@ -950,6 +1079,9 @@ def stored():
     cases += made(limits([*closed_costs(), *closed_lines(), *closed_bounds()]), closed_list_cases(), closed_value_cases(), closed_order_cases(),
                   closed_record_cases()) + [*largest_with_closed_cases()]
     cases += drawn(DRAWN_CLOSED, sum(sum(counts.values()) for counts in (DRAWN, DRAWN_STOPS, DRAWN_ROWS, DRAWN_DESKS, DRAWN_TABLES)))
+    cases += made(limits(depot_limits()), depot_list_cases(), depot_closed_cases(), depot_value_cases(), depot_order_cases(), depot_record_cases())
+    cases += [largest_with_depots_case()]
+    cases += drawn(DRAWN_DEPOTS, sum(sum(counts.values()) for counts in (DRAWN, DRAWN_STOPS, DRAWN_ROWS, DRAWN_DESKS, DRAWN_TABLES, DRAWN_CLOSED)))
     return [case._replace(title='%d %s' % (n, case.title)) for n, case in enumerate(cases)]
 
 

@@ -117,7 +117,7 @@ def without_plan(rng, words):
 
 def vast(rng):
     """All calls on a book that has too many plans to enumerate."""
-    words = rng.choice([books.vast, books.stops_vast, books.closed_vast])(rng)
+    words = rng.choice([books.vast, books.stops_vast, books.closed_vast, books.depots_vast])(rng)
     most = rng.choice([64, 64, rng.randint(2, 63)])
     with search.instead_of_enumeration():
         listed, record = ref.ranking(words, most), ref.record(words, most)
@@ -167,13 +167,16 @@ def carried(words, most, k, tail=b''):
 FAULTY = [books.small, books.few, books.wide, books.edge]
 FAULTY_STOPS = [books.stops, books.stops_everywhere, books.sure_stops, books.stops_barely, books.stops_wide, books.stops_edge]
 FAULTY_CLOSED = [books.closed, books.closed_last, books.all_closed, books.closed_wide, books.closed_edge]
+FAULTY_DEPOTS = [books.depots, books.depots_eight, books.depots_alone, books.depots_closed, books.depots_wide, books.depots_edge]
 
 # What is drawn from: shapes of any book, of one with several plans and of one that gets faults, and the faults.
 Source = collections.namedtuple('Source', 'shapes several faulty breaks')
 WITHOUT_CLOSED = Source(books.SHAPES, [books.small, books.ties, books.few, books.stops, books.stops_and_ties, books.post_0_stops], FAULTY + FAULTY_STOPS,
                         books.BREAKS)
 WITH_CLOSED = Source(books.WITH_CLOSED, [books.closed, books.closed_and_ties, books.dead_ends], FAULTY_CLOSED, books.BREAKS + books.BREAKS_CLOSED)
-EVERY = Source(*(old + new for old, new in zip(WITHOUT_CLOSED, WITH_CLOSED)))
+WITH_DEPOTS = Source(books.WITH_DEPOTS, [books.depots, books.depots_alone, books.depots_and_ties, books.depots_closed], FAULTY_DEPOTS,
+                     books.BREAKS + books.BREAKS_DEPOTS)
+EVERY = Source(*(sum(lists, []) for lists in zip(WITHOUT_CLOSED, WITH_CLOSED, WITH_DEPOTS)))
 
 
 def faulty(rng, faults, shapes=FAULTY + FAULTY_STOPS):
@@ -201,6 +204,11 @@ def refused(rng, words):
 def seven(rng):
     """A choice of 7 next posts or more, alone or where a later question of the book is answered no too."""
     return refused(rng, books.broken(rng, books.seven(rng), rng.sample(books.BREAKS[9:], rng.choice([0, 0, 1, 2]))))
+
+
+def nine(rng):
+    """A last post with nine closing choices or more, alone or where a later question of the book is answered no too."""
+    return refused(rng, books.broken(rng, books.nine(rng), rng.sample(books.BREAKS[8:], rng.choice([0, 0, 1, 2]))))
 
 
 def wild(rng):
@@ -470,6 +478,11 @@ def closed_faults(rng):
     return refused(rng, faulty(rng, rng.sample(books.BREAKS_CLOSED, rng.choice([1, 1, 2, 3])), FAULTY_CLOSED))
 
 
+def depot_faults(rng):
+    """A book with depots and one fault or a few, at them or elsewhere."""
+    return refused(rng, faulty(rng, rng.sample(books.BREAKS_DEPOTS, rng.choice([1, 1, 2, 3])), FAULTY_DEPOTS))
+
+
 def desk_from(source):
     return lambda rng: at_desk(rng, source)
 
@@ -478,13 +491,15 @@ SHAPES = {'small': 250, 'deep': 130, 'wide': 56, 'ties': 140, 'few': 150, 'unrea
           'stops': 250, 'stops_each_stage': 100, 'stops_everywhere': 100, 'sure_stops': 80, 'post_0_stops': 60, 'stops_unreached': 50, 'stops_barely': 80,
           'stops_and_ties': 150, 'stops_and_gains': 80, 'stops_deep': 80, 'stops_wide': 50, 'stops_edge': 80, 'stops_many': 20, 'stops_large': 10,
           'stops_full': 4, 'six': 40, 'stops_six': 40, 'closed': 250, 'closed_last': 100, 'closed_stage': 60, 'all_closed': 30, 'closed_unreached': 50,
-          'one_plan': 80, 'dead_ends': 180, 'closed_and_ties': 180, 'closed_wide': 70, 'closed_deep': 110, 'closed_edge': 90, 'closed_large': 10}
+          'one_plan': 80, 'dead_ends': 180, 'closed_and_ties': 180, 'closed_wide': 70, 'closed_deep': 110, 'closed_edge': 90, 'closed_large': 10,
+          'depots': 220, 'depots_eight': 60, 'depots_alone': 80, 'depots_and_ties': 140, 'depots_closed': 160, 'depots_unreached': 40, 'depots_wide': 60,
+          'depots_edge': 70}
 KINDS = {name: (weight, good_of(getattr(books, name))) for name, weight in SHAPES.items()}    # how often each is drawn, and how it is made
 KINDS.update({'fault %d' % n: (36, fault(n)) for n in range(1, 14)})
 KINDS.update({'seven': (40, seven), 'vast': (16, vast), 'faults': (120, faults(FAULTY)), 'stops, faults': (120, faults(FAULTY_STOPS)), 'wild': (60, wild),
               'bad counts': (60, bad_counts), 'noise': (140, noise), 'forged': (36, forged), 'longest': (4, longest), 'powers': (10, powers),
               'page': (200, some_page), 'desk': (100, desk_from(WITHOUT_CLOSED)), 'desk, closed': (60, desk_from(WITH_CLOSED)), 'convert': (200, conversion),
-              'closed, faults': (160, closed_faults)})
+              'closed, faults': (160, closed_faults), 'nine': (40, nine), 'depots, faults': (120, depot_faults), 'desk, depots': (40, desk_from(WITH_DEPOTS))})
 
 
 def make(seed, n, name):

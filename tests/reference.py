@@ -1,4 +1,4 @@
-"""The rules of document 01 with the changes of document 02 (2.1, 2.3, 2.7), word by word and without any search: plans and days are enumerated.
+"""The rules of document 01 with the changes of document 02 (2.1, 2.3, 2.7, 2.9), word by word and without any search: plans and days are enumerated.
 
 Written from the documents alone. It shares nothing with the proved program, and is slow on purpose: every plan of the book is listed, every day
 of every plan is walked. Words below are those of the documents.
@@ -90,7 +90,7 @@ def check(words):
     if len(words) != 4 + stages + posts + 2 * lines:
         return 7
     counts = words[4 + stages:4 + stages + posts]
-    if any(not 1 <= n <= 8 for n in counts) or any(n != 1 for n in counts[posts - sizes[stages]:]):
+    if any(not 1 <= n <= 8 for n in counts):
         return 8
     if not lines_fit(words):
         return 9

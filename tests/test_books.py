@@ -1,7 +1,8 @@
 #!/usr/bin/env python3
-"""books.py draws what its shapes say, the days of its plans weigh D^H together, the plans of a book are those that avoid its closed choices, and random cases
-and inputs meet books with stops and with closed choices often. Run: python3 tests/test_books.py"""
+"""books.py draws what its shapes say, the days of its plans weigh D^H together, the plans of a book are those that avoid its closed choices, with each of its
+depots, and random cases and inputs meet books with stops, with closed choices and with depots often. Run: python3 tests/test_books.py"""
 
+import itertools
 import os
 import random
 import sys
@@ -208,6 +209,101 @@ class Closed(unittest.TestCase):
                 self.assertIn(ref.least(words)[0], (0, 13))
 
 
+def depot_counts(words):
+    """How many closing choices each post of stage H has."""
+    return ref.Book(words).counts[-words[3 + words[1]]:]
+
+
+def with_each_depot(words):
+    """The plans, from those of the same book with one open closing choice at each last post: with every open depot at each last post that they reach."""
+    book, one = ref.Book(words), ref.Book(words)
+    for post in books.last_posts(book):
+        one.choices[post] = [(0, [])]
+        one.counts[post] = 1
+    for plan in ref.plans(one):
+        options = [[c for c in range(book.counts[post]) if book.is_open(post, c)] if plan[post] == 0 else [255] for post in books.last_posts(book)]
+        for last in itertools.product(*options):
+            yield plan[:-len(last)] + last
+
+
+class Depots(unittest.TestCase):
+    # What every book of a shape has.
+    HAVE = {
+        books.depots_eight: lambda words: words[1] == 1 and {*depot_counts(words)} == {8},
+        books.depots_alone: lambda words: {*ref.Book(words).counts[:-words[3 + words[1]]]} == {1},
+        books.depots_closed: lambda words: {*books.depots_at(words)} & {*books.closures(words)},
+        books.depots_unreached: lambda words: not {post for post, _ in books.depots_at(words)} & books.reachable(ref.Book(words)),
+        books.depots_wide: lambda words: len(depot_counts(words)) >= 8,
+        books.depots_edge: lambda words: books.most_cost(words[0], words[1]) < 100000,
+    }
+
+    def every(self, shape, count, have):
+        self.assertTrue(all(have(words) for words in drawn(shape, count)), shape.__name__)
+
+    def test_depots(self):
+        for shape in books.WITH_DEPOTS + [books.depots_vast]:
+            self.every(shape, 5 if shape == books.depots_vast else 100, lambda words: books.depots_at(words) and max(depot_counts(words)) <= 8)
+        for shape in books.SHAPES + books.WITH_CLOSED:
+            self.every(shape, 20, lambda words: not books.depots_at(words))
+
+    def test_what_each_has(self):
+        for shape, have in self.HAVE.items():
+            self.every(shape, 100, have)
+
+    def test_accepted(self):
+        """All but a depot's cost beyond question 13's edge is allowed."""
+        for shape in books.WITH_DEPOTS:
+            numbers = [ref.check(words) for words in drawn(shape, 100)]
+            if shape == books.depots_edge:
+                self.assertEqual({*numbers}, {0, 13})
+                self.assertGreater(min(numbers.count(0), numbers.count(13)), 20)
+            else:
+                self.assertEqual({*numbers}, {0}, shape.__name__)
+
+    def test_plans(self):
+        """The plans are those of the book with one closing choice a post, with each open depot at every last post that they reach."""
+        rng, more = random.Random('depots'), 0
+        for _ in range(300):
+            words = books.draw(rng, rng.choice(books.WITH_DEPOTS))
+            if not ref.check(words):
+                found = [*ref.plans(ref.Book(words))]
+                self.assertEqual(found, sorted(with_each_depot(words)))
+                more += len(found) > len({plan[:-len(depot_counts(words))] for plan in found})
+        self.assertGreater(more, 150)
+
+    def test_ties(self):
+        """In many books two plans that differ in depots only tie, and in many they do not."""
+        tied = apart = 0
+        for words in drawn(books.depots_and_ties, 100):
+            if books.feasible(words, 2000):
+                last, listed = len(depot_counts(words)), ref.in_order(tuple(words))
+                pairs = [(a == b) for (a, p), (b, q) in zip(listed, listed[1:]) if p[:-last] == q[:-last]]
+                tied, apart = tied + any(pairs), apart + (False in pairs)
+        self.assertGreater(min(tied, apart), 20)
+
+    def test_costs(self):
+        """Costs without their signs grow by as much as depots cost more: with every depot of a post a second dearer, by the weight of the days that end there."""
+        rng, several = random.Random('dearer'), 0
+        for _ in range(100):
+            words = books.draw(rng, rng.choice([books.depots, books.depots_alone, books.depots_closed]))
+            book = ref.Book(words)
+            for _, plan in ref.in_order(tuple(words))[:3]:
+                ends = [post for post in books.last_posts(book) if plan[post] != 255]
+                rise = [0] * book.posts
+                for post in ends:
+                    dearer = ref.Book(words)
+                    dearer.choices[post] = [(cost + 1, lines) for cost, lines in dearer.choices[post]]
+                    rise[post] = ref.plan_cost(dearer, plan) - ref.plan_cost(book, plan)
+                    self.assertGreaterEqual(rise[post], 1)
+                    for c in range(book.counts[post]):
+                        other = plan[:post] + (c,) + plan[post + 1:]
+                        difference = book.choices[post][c][0] - book.choices[post][plan[post]][0]
+                        self.assertEqual(ref.plan_cost(book, other), ref.plan_cost(book, plan) + rise[post] * difference)
+                self.assertLessEqual(sum(rise), book.scale ** book.stages)
+                several += len(ends) > 1
+        self.assertGreater(several, 60)
+
+
 class Days(unittest.TestCase):
     def plans(self, shapes, count):
         """(book, plan, its days) of some plans of random books that are accepted."""
@@ -264,6 +360,24 @@ class Faults(unittest.TestCase):
                 sevens += 1
         self.assertGreater(sevens, 60)
 
+    def test_nine(self):
+        """Nine closing choices or more at a post get 8, and nothing else is amiss: with the first eight of them the book is accepted."""
+        for words in drawn(books.nine, 200):
+            self.assertEqual(ref.check(words), 8)
+            book = ref.Book(words)
+            post, = (post for post in range(book.posts) if book.counts[post] > 8)
+            self.assertEqual(book.stage[post], book.stages)
+            book.choices[post] = book.choices[post][:8]
+            self.assertEqual(ref.check(books.build(book.scale, book.sizes, book.choices)), 0)
+
+    def test_depots(self):
+        """Faults at depots get 8, 9 and 10."""
+        rng, numbers = random.Random('depots'), []
+        for _ in range(300):
+            numbers.append(ref.check(kinds.faulty(rng, [books.break_depots], [books.depots, books.depots_eight, books.depots_closed])))
+        self.assertEqual({*numbers}, {8, 9, 10})
+        self.assertGreater(min(numbers.count(n) for n in (8, 9, 10)), 40)
+
     def test_numbers(self):
         """Faults for the questions 9 and 12 are faults, but for some weights that only stop."""
         for n in (9, 12):
@@ -286,16 +400,19 @@ class Faults(unittest.TestCase):
 
 
 class Met(unittest.TestCase):
-    """How many of the books that are accepted have a stop that some plan reaches, at least a third and no more than two thirds; and how many have a closed
-    choice, at least a fifth and no more than a half."""
+    """How many of the books that are accepted have a stop that some plan reaches, at least a third and no more than two thirds; how many have a closed choice,
+    at least a fifth and no more than a half; and how many have a post with several depots, at least an eighth and no more than a half."""
 
     def share(self, found):
         stopped, closed = sum(1 for words in found if reached_stops(words)), sum(1 for words in found if books.closures(words))
+        depots = sum(1 for words in found if books.depots_at(words))
         self.assertGreater(len(found), 60)
         self.assertGreater(stopped, len(found) / 3)
         self.assertLess(stopped, len(found) * 2 / 3)
         self.assertGreater(closed, len(found) / 5)
         self.assertLess(closed, len(found) / 2)
+        self.assertGreater(depots, len(found) / 8)
+        self.assertLess(depots, len(found) / 2)
 
     def test_cases(self):
         self.share([words for n in range(160) for words in machine.books_of(kinds.fresh('met', n)) if not ref.check(words)])

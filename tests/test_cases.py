@@ -1,6 +1,6 @@
 #!/usr/bin/env python3
-"""The stored cases are those that cases.py makes, and every call has a case for each number that it can give, and is accepted with stops and with closed
-choices. Run: python3 tests/test_cases.py"""
+"""The stored cases are those that cases.py makes, and every call has a case for each number that it can give, and is accepted with stops, with closed choices
+and with depots. Run: python3 tests/test_cases.py"""
 
 import os
 import sys
@@ -62,6 +62,17 @@ class Stored(unittest.TestCase):
         found = self.accepted_with(books.closures)
         self.assertGreater(min(found.values()), 30, found)
 
+    def test_depots(self):
+        """Each call is accepted in many cases of a book with several depots at a post, and in many of a book without."""
+        found = self.accepted_with(books.depots_at)
+        self.assertGreater(min(found.values()), 30, found)
+
+    def test_eight_and_nine(self):
+        """At posts that are reached and that are not every call accepts 1 to 8 depots, and gives 8 for 9."""
+        for n, number in ((1, 0), (2, 0), (8, 0), (9, 8)):
+            for where in ('', ' at the last post', ' at the first last post', ' at a post that no plan reaches'):
+                self.gives('question 8: %d depots%s' % (n, where), number)
+
     def test_no_plan(self):
         """In many cases a book has no plan. Then a call that lists gives 28 or 14 whatever the slices are, the least cost 28, and valuing 17."""
         numbers, cases_of = {name: set() for name in NUMBERS}, 0
@@ -79,12 +90,16 @@ class Stored(unittest.TestCase):
         """At each of four stages every call accepts a row of 6 next posts, and gives 9 for one of 7."""
         for n in range(4):
             for r, number in ((6, 0), (7, 9)):
-                title, found = ' question 9: %d next posts at stage %d of 4' % (r, n), {name: set() for name in NUMBERS}
-                for c, text in [line for case, lines in zip(self.cases, self.of_case) if case.title.endswith(title) for line in lines]:
-                    if c.kind in NUMBERS:
-                        found[c.kind].add(int(text.split()[1]))
-                for name, numbers in found.items():
-                    self.assertTrue(number in numbers if r == 6 else numbers == {number}, (title, name, numbers))
+                self.gives('question 9: %d next posts at stage %d of 4' % (r, n), number)
+
+    def gives(self, title, number):
+        """In the cases of this title every call is accepted at least once, or gets the number and no other."""
+        found = {name: set() for name in NUMBERS}
+        for c, text in [line for case, lines in zip(self.cases, self.of_case) if case.title.endswith(' ' + title) for line in lines]:
+            if c.kind in NUMBERS:
+                found[c.kind].add(int(text.split()[1]))
+        for name, numbers in found.items():
+            self.assertTrue(numbers == {number} if number else 0 in numbers, (title, name, numbers))
 
 
 if __name__ == '__main__':

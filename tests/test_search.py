@@ -1,5 +1,5 @@
 #!/usr/bin/env python3
-"""tests/search.py gives what reference.py gives, and both what document 01 says of a list, with stops and closed choices and without. Run:
+"""tests/search.py gives what reference.py gives, and both what document 01 says of a list, with stops, closed choices and depots and without. Run:
 python3 tests/test_search.py"""
 
 import os
@@ -23,15 +23,16 @@ class Same(unittest.TestCase):
                 yield rng, words
 
     def test_lists(self):
-        found = {'stops': 0, 'no stops': 0, 'closed': 0, 'none closed': 0, 'no plan': 0}
+        found = {'stops': 0, 'no stops': 0, 'closed': 0, 'none closed': 0, 'depots': 0, 'no depots': 0, 'no plan': 0}
         for rng, words in self.books(500):
             for k in (1, rng.randint(1, 64), 64):
                 self.assertEqual(search.first(words, k), ref.ranking(words, k))
-            for what in ('stops' if books.stopping(words) else 'no stops', 'closed' if books.closures(words) else 'none closed'):
+            for what in ('stops' if books.stopping(words) else 'no stops', 'closed' if books.closures(words) else 'none closed',
+                         'depots' if books.depots_at(words) else 'no depots'):
                 found[what] += 1
             found['no plan'] += not ref.ranking(words, 1)
-        self.assertGreater(min(found[what] for what in found if what != 'no plan'), 120, found)
-        self.assertGreater(found['no plan'], 40)
+        self.assertGreater(min(found[what] for what in found if what != 'no plan'), 80, found)
+        self.assertGreater(found['no plan'], 30)
 
     def test_plans_and_costs(self):
         found = {True: 0, False: 0}
