@@ -45,14 +45,15 @@ def stop_weights(words):
 
 
 def drawn(count):
-    """Good books, books with stops, books with closed choices, books with faults, and words that are no book."""
+    """Good books, books with stops, with closed choices and with depots, books with faults, and words that are no book."""
     rng = random.Random('text')
     for _ in range(count):
-        for shapes in (books.WITHOUT_STOPS + [books.many], books.WITH_STOPS + [books.stops_many], books.WITH_CLOSED):
+        for shapes in (books.WITHOUT_STOPS + [books.many], books.WITH_STOPS + [books.stops_many], books.WITH_CLOSED, books.WITH_DEPOTS):
             words = rng.choice(shapes)(rng)
             yield words
             if not ref.check(words):
-                yield books.broken(rng, words, rng.sample(books.BREAKS + books.BREAKS_CLOSED, rng.randint(1, 3)))
+                yield books.broken(rng, words, rng.sample(books.BREAKS + books.BREAKS_CLOSED + books.BREAKS_DEPOTS, rng.randint(1, 3)))
+        yield books.nine(rng)
         yield books.wild(rng)
     yield books.large(rng)
     yield books.stops_large(rng)
@@ -75,10 +76,10 @@ class RoundTrips(unittest.TestCase):
         for words in drawn(200):
             if ref.check(words) == 0 or ref.check(words) > 9:
                 lines = book.text_of_words(words).split('\n')
-                count = [sum(1 for line in lines if line.split()[:1] == [name]) for name in ('stage', 'post', 'choice', 'next')]
+                count = [sum(1 for line in lines if line.split()[:1] == [name]) for name in ('stage', 'post', 'choice', 'next', 'depot')]
                 self.assertEqual(count[0], words[1] + 1)
                 self.assertEqual(count[1], sum(words[3:4 + words[1]]))
-                self.assertEqual(count[2] + count[3], words[2])
+                self.assertEqual(sum(count[2:]), words[2])
 
     def test_count_in_front(self):
         for k in (0, 3, 64, 2 ** 32 - 1):
@@ -282,6 +283,70 @@ class Closed(unittest.TestCase):
         self.assertEqual(book.words_of_text(text.encode()), words)
 
 
+DEPOTS = [4, 1, 10, 1, 2, 2, 3, 2] + [2, 0, 1, 1, 0, 0, 0, 0, 0, 0] + [10, 3, 1, 13, 4, 6, 4, 200000, 2, 2]
+
+
+class Depots(unittest.TestCase):
+    def drawn(self):
+        rng = random.Random('depots')
+        for _ in range(100):
+            yield rng, rng.choice(books.WITH_DEPOTS)(rng)
+
+    def names_of(self, text):
+        """The first word of each line of a choice, in order."""
+        return [line.split()[0] for line in text.split('\n') if line.split()[:1] in (['choice'], ['depot'])]
+
+    def test_example(self):
+        with open(os.path.join(HERE, '..', 'examples', 'depots.txt'), 'rb') as f:
+            self.assertEqual(book.words_of_text(f.read()), DEPOTS)
+        self.assertEqual(self.names_of(book.text_of_words(DEPOTS)), ['choice'] * 2 + ['depot'] * 5)
+        self.assertIn('    depot 1 cost 4\n    depot 2 closed\n  post 2\n', book.text_of_words(DEPOTS))
+
+    def test_written_where_a_last_post_has_several(self):
+        """The word depot for each choice of a last post that has more than one, and choice for every other; with choice for all the words are the same."""
+        found = {'choice': 0, 'depot': 0}
+        for _, words in self.drawn():
+            text, several = book.text_of_words(words), {*books.depots_at(words)}
+            names = self.names_of(text)
+            self.assertEqual(names, ['depot' if place in several else 'choice' for place in books.every_choice(ref.Book(words))])
+            for other in (text, text.replace('depot', 'choice')):
+                self.assertEqual(book.words_of_text(other.encode()), words)
+            for name in names:
+                found[name] += 1
+        self.assertGreater(min(found.values()), 500, found)
+
+    def test_one_closing_choice(self):
+        """Where no last post has several the word is not written, and where one has it may stand for its one choice too."""
+        for words in (tours.book_a(), tours.book_c(), CLOSED_BRIDGE):
+            text = book.text_of_words(words)
+            self.assertNotIn('depot', text)
+            at = text.rindex('stage')
+            self.assertEqual(book.words_of_text((text[:at] + text[at:].replace('choice', 'depot')).encode()), words)
+
+    def test_before_the_last_stage(self):
+        """It is judged when the text has ended, and the first such line is named."""
+        text = book.text_of_words(tours.book_c()).replace('choice', 'depot')
+        with self.assertRaises(book.Refused) as caught:
+            book.words_of_text(text.encode())
+        self.assertEqual(str(caught.exception), 'line 5: a line "depot" before the last stage')
+
+    def test_record(self):
+        """The plans of a record have depots where its book has."""
+        text = book.record_to_text(ref.record(DEPOTS, 2))
+        self.assertTrue(text.startswith('# a record: a book of 28 words, K = 2, k = 2\n\n' + book.text_of_words(DEPOTS)))
+        self.assertTrue(text.endswith('''
+# plan 1: cost 54 / 4 = 13.5
+#   post 0 choice 0
+#   post 1 depot 1
+#   post 2 depot 0
+# plan 2: cost 54 / 4 = 13.5
+#   post 0 choice 0
+#   post 1 depot 1
+#   post 2 depot 1
+'''))
+        self.assertEqual(book.words_of_text(text.encode()), DEPOTS)
+
+
 class Records(unittest.TestCase):
     def test_closed(self):
         """The book of a record is written with its closed choices, and its plans take none."""
@@ -325,14 +390,14 @@ class Records(unittest.TestCase):
             whole, found = words[0] ** words[1], []
             for line in text.split('\n'):
                 head = re.fullmatch(r'# plan (\d+): cost (-?\d+) / (\d+) = (about )?(-?[\d.]+)', line)
-                row = re.fullmatch(r'#   post (\d+) choice (\d+)', line)
+                row = re.fullmatch(r'#   post (\d+) (choice|depot) (\d+)', line)
                 if head:
                     self.assertEqual((int(head[1]), int(head[3])), (len(found) + 1, whole))
                     away = abs(fractions.Fraction(head[5]) - fractions.Fraction(int(head[2]), whole))
                     self.assertTrue(0 < away <= fractions.Fraction(1, 2 * 10 ** 12) if head[4] else away == 0)
                     found.append((int(head[2]), [255] * ref.Book(words).posts))
                 elif row:
-                    found[-1][1][int(row[1])] = int(row[2])
+                    found[-1][1][int(row[1])] = int(row[3])
             self.assertEqual([(cost, tuple(plan)) for cost, plan in found], ref.ranking(words, k))
 
     def test_decimal(self):
@@ -389,6 +454,14 @@ MESSAGES = [
     ('scale 2\nstage 0\npost 0\nchoice 1 closed', 'line 4: choice 1 is written where choice 0 is due'),
     ('scale 2\nstage 0\nchoice 0 closed', 'line 3: a line "choice" before the first line "post"'),
     ('scale 2\nstage 0\npost 0\nchoice 0 cost x', 'line 4: "x" is not a whole number'),
+    ('scale 2\nstage 0\npost 0\ndepot 0', 'line 4: expected "depot NUMBER cost NUMBER" or "depot NUMBER closed"'),
+    ('scale 2\nstage 0\npost 0\ndepot 0 weight 1', 'line 4: expected "depot NUMBER cost NUMBER" or "depot NUMBER closed"'),
+    ('scale 2\nstage 0\npost 0\ndepot 0 cost 1\ndepot 2 cost 1', 'line 5: depot 2 is written where depot 1 is due'),
+    ('scale 2\nstage 0\npost 0\nchoice 0 cost 1\ndepot 0 closed', 'line 5: depot 0 is written where depot 1 is due'),
+    ('scale 2\nstage 0\ndepot 0 cost 1', 'line 3: a line "depot" before the first line "post"'),
+    ('scale 2\ndepot 0 closed', 'line 2: a line "depot" before the first line "stage"'),
+    ('scale 2\nstage 0\npost 0\ndepot 0 cost 1\nstage 1\npost 1\ndepot 0 cost 1', 'line 4: a line "depot" before the last stage'),
+    ('words 1\ndepot 0 cost 1', 'line 2: lines "words" stand in a book alone'),
     ('scale 2\nstage 0\npost 0\nnext 0 weight 2', 'line 4: a line "next" before the first line "choice"'),
     ('scale 2\nstage 0\nnext 0 weight 2', 'line 3: a line "next" before the first line "post"'),
     ('scale 2\nnext 0 weight 2', 'line 2: a line "next" before the first line "stage"'),
@@ -455,16 +528,17 @@ class Document(unittest.TestCase):
         self.assertEqual(book.words_of_text(blocks[0].encode()), tours.book_a())
         self.assertIn(blocks[1], book.text_of_words(CLOSED_BRIDGE))
         self.assertIn(blocks[2], book.text_of_words(REFUSED_PARCEL))
-        self.assertTrue(book.record_to_text(ref.record(tours.book_a(), 3)).endswith(blocks[3]))
+        self.assertIn(blocks[3], book.text_of_words(DEPOTS))
+        self.assertTrue(book.record_to_text(ref.record(tours.book_a(), 3)).endswith(blocks[4]))
 
     def test_pages(self):
         pages = [re.sub('^    ', '', part, flags=re.M) for part in re.findall(r'(?<=\n\n)(?:    .*\n)+(?=\n)', self.text)]
         opened = books.with_cost(CLOSED_BRIDGE, books.closures(CLOSED_BRIDGE), 3)
-        for words, k in ((tours.book_a(), 3), (REFUSED_PARCEL, 4), (CLOSED_BRIDGE, 7), (opened, 7)):
+        for words, k in ((tours.book_a(), 3), (REFUSED_PARCEL, 4), (CLOSED_BRIDGE, 7), (opened, 7), (DEPOTS, 8)):
             self.assertIn(ref.page(k.to_bytes(4, 'little') + book.bytes_of_words(words)).decode(), pages)
 
     def test_words_of_examples(self):
-        for name, words in (('refused_parcel', REFUSED_PARCEL), ('closed_bridge', CLOSED_BRIDGE)):
+        for name, words in (('refused_parcel', REFUSED_PARCEL), ('closed_bridge', CLOSED_BRIDGE), ('depots', DEPOTS)):
             row = re.search(r'`examples/%s.txt` has the words (.*?)\.' % name, self.text, re.S)[1]
             self.assertEqual([int(n) for n in re.findall(r'-?\d+', row)], words)
 
@@ -496,13 +570,15 @@ class Document(unittest.TestCase):
             days = [(self.figure(weight), self.figure(cost)) for _, _, weight, cost, _ in rows]
             self.assertEqual([weight * cost for weight, cost in days], [int(row[4]) for row in rows])
             self.assertEqual(sorted(days), sorted(ref.days(ref.Book(words), plan)))
-            self.assertEqual((total[2], sum(weight for weight, _ in days)), ('16 = D^H', 16))
+            whole = words[0] ** words[1]
+            self.assertEqual((total[2], sum(weight for weight, _ in days)), ('%d = D^H' % whole, whole))
             self.assertEqual(int(total[4]), sum(weight * cost for weight, cost in days))
             self.assertEqual(ref.value(words, plan), (0, int(total[4])))
 
     def test_days(self):
         self.days('A book with stops', REFUSED_PARCEL, ['0 0 0', '0 1 255'])
         self.days('A book with closed choices', CLOSED_BRIDGE, ['2 255 1 0 0', '2 255 2 255 0'])
+        self.days('A book with depots', DEPOTS, ['0 1 0', '0 0 0'])
 
     def test_book_c(self):
         row = re.search(r'Book C has the words (.*?)\. Its', self.text, re.S)[1]

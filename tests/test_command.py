@@ -31,7 +31,7 @@ import tables
 import tours
 from kbest import QUESTIONS
 from tables import BY_HAND
-from test_book import CLOSED_BRIDGE
+from test_book import CLOSED_BRIDGE, DEPOTS
 from test_tables import BOOK_BY_HAND
 
 KBEST = os.path.join(ROOT, 'kbest')
@@ -192,6 +192,22 @@ class Verbs(Folder):
         self.expect(run('file', path, '7', '-o', self.path('record')), 0, b'')
         self.expect(run('page', self.path('record')), 0, page)
 
+    def test_depots(self):
+        """The example with depots, as docs/FORMAT.md works it out; the same text with the word choice; filed, and its page; and nine depots."""
+        path = os.path.join(ROOT, 'examples', 'depots.txt')
+        page = b'6 of 8, scale 4\n1 54 0 1 0\n2 54 0 1 1\n3 60 0 0 0\n4 60 0 0 1\n5 68 1 1 -\n6 76 1 0 -\n'
+        self.assertEqual(page, ref.page(b'\10\0\0\0' + book.bytes_of_words(DEPOTS)))
+        self.expect(run(path, '8'), 0, page)
+        with open(path, 'rb') as f:
+            given = f.read()
+        self.expect(run('-', '8', data=given.replace(b' depot ', b' choice ')), 0, page)
+        self.expect(run('check', path), 0, b'accepted\n')
+        self.expect(run('file', path, '8', '-o', self.path('record')), 0, b'')
+        self.expect(run('page', self.path('record')), 0, page)
+        nine = given + b''.join(b'depot %d cost 3\n' % c for c in range(2, 9))
+        self.expect(run('-', '8', data=nine), 1, b'refused 8\n', reason(8))
+        self.expect(run('-', '1', data=nine[:nine.rindex(b'depot')]), 0, b'1 of 1, scale 4\n1 54 0 1 0\n')
+
     def test_two_states(self):
         """The example of source document 001, whose answer is a12 with a reward of 10, or 100 over D^H = 10; and its list as a record."""
         path = os.path.join(ROOT, 'examples', 'two_states.txt')
@@ -244,7 +260,7 @@ class RoundTrips(Folder):
                     self.checked(*(('book', text(given[0])) if call == 'check' else ('record', given[0])), result)
 
     def test_random_books(self):
-        for words, k in [*accepted_books(8, books.SHAPES), *accepted_books(5, books.WITH_CLOSED)]:
+        for words, k in [*accepted_books(8, books.SHAPES), *accepted_books(5, books.WITH_CLOSED), *accepted_books(5, books.WITH_DEPOTS)]:
             self.round_trip(words, k)
 
     def test_without_a_plan(self):

@@ -121,8 +121,8 @@ class Reader:
 
 
 class BookReader(Reader):
-    """What the lines say so far: stages of posts of choices, each choice [cost, [(next post, weight)]]. And the stops, each (line, stage, choice, weight): only
-    the whole text can say whether the weight is the one due."""
+    """What the lines say so far: stages of posts of choices, each choice [cost, [(next post, weight)]]. And the stops, each (line, stage, choice, weight), and the
+    depots, each (line, stage): only the whole text can say whether the weight is the one due, and which stage is the last."""
 
     KIND, SIZES = 'book', ('scale',)
     FORMS = {
@@ -130,6 +130,7 @@ class BookReader(Reader):
         'stage': 'stage NUMBER',
         'post': 'post NUMBER',
         'choice': 'choice NUMBER cost NUMBER | choice NUMBER closed',
+        'depot': 'depot NUMBER cost NUMBER | depot NUMBER closed',
         'next': 'next NUMBER weight NUMBER',
         'stop': 'stop weight NUMBER',
         'words': 'words NUMBER ..',
@@ -137,7 +138,7 @@ class BookReader(Reader):
 
     def __init__(self):
         super().__init__()
-        self.stages, self.posts, self.stops = [], 0, []
+        self.stages, self.posts, self.stops, self.depots = [], 0, [], []
 
     def post(self, line, name):
         return self.inner(line, name, 'post', self.inner(line, name, 'stage', self.stages))
@@ -152,10 +153,14 @@ class BookReader(Reader):
         stage.append([])
         self.posts += 1
 
-    def take_choice(self, line, n, cost=CLOSED):
-        post = self.post(line, 'choice')
-        self.due(line, 'choice', n, len(post))
+    def take_choice(self, line, n, cost=CLOSED, name='choice'):
+        post = self.post(line, name)
+        self.due(line, name, n, len(post))
         post.append([cost, []])
+
+    def take_depot(self, line, n, cost=CLOSED):
+        self.take_choice(line, n, cost, 'depot')
+        self.depots.append((line, len(self.stages) - 1))
 
     def take_next(self, line, step, weight):
         self.inner(line, 'next', 'choice', self.post(line, 'next'))[1].append((step, weight))
@@ -165,6 +170,11 @@ class BookReader(Reader):
         if self.stops and self.stops[-1][2] is choice:
             refuse(line, 'a second line "stop" in one choice')
         self.stops.append((line, len(self.stages) - 1, choice, weight))
+
+    def check_depots(self):
+        for line, stage in self.depots:
+            if stage < len(self.stages) - 1:
+                refuse(line, 'a line "depot" before the last stage')
 
     def check_stops(self):
         scale = self.sizes['scale']
@@ -178,6 +188,7 @@ class BookReader(Reader):
 
     def made(self, line):
         self.needs(line, 'stage', self.stages)
+        self.check_depots()
         self.check_stops()
         posts = [post for stage in self.stages for post in stage]
         left, right = columns([choice for post in posts for choice in post])
@@ -254,8 +265,13 @@ def plain_words(words):
     return ''.join(' '.join(['words'] + [str(word) for word in row]) + '\n' for row in rows)
 
 
-def choice_line(choice, cost):
-    return '    choice %d ' % choice + ('closed' if cost == CLOSED else 'cost %d' % cost)
+def choice_name(post, later):
+    """What a choice of the post is called: at the last stage a depot, where there are several to choose from."""
+    return 'choice' if later or len(post) < 2 else 'depot'
+
+
+def choice_line(name, choice, cost):
+    return '    %s %d ' % (name, choice) + ('closed' if cost == CLOSED else 'cost %d' % cost)
 
 
 def next_line(step, weight, first, later):
@@ -281,7 +297,7 @@ def text_of_words(words):
         for i, post in enumerate(stage):
             out.append('  post %d' % (first + i))
             for c, (cost, nexts) in enumerate(post):
-                out.append(choice_line(c, cost))
+                out.append(choice_line(choice_name(post, stages[n + 1:]), c, cost))
                 out += [next_line(step, weight, first + len(stage), stages[n + 1:]) for step, weight in nexts]
                 out += stop_lines(scale, nexts, stages[n + 1:])
         first += len(stage)
@@ -309,11 +325,11 @@ def decimal(top, bottom):
     return ('about ' if rest else '') + ('-' if top < 0 and scaled else '') + str(whole) + ('.' + digits if digits else '')
 
 
-def plan_lines(rank, cost, whole, plan):
+def plan_lines(rank, cost, whole, plan, names):
     yield '# plan %d: cost %d / %d = %s' % (rank, cost, whole, decimal(cost, whole))
-    for post, choice in enumerate(plan):
+    for post, (choice, name) in enumerate(zip(plan, names)):
         if choice != 255:
-            yield '#   post %d choice %d' % (post, choice)
+            yield '#   post %d %s %d' % (post, name, choice)
 
 
 def record_to_text(data):
@@ -332,12 +348,13 @@ def record_to_text(data):
         raise Refused('D^H is %d' % whole)
     if len(data) != at + 8 * k + k * posts:
         raise Refused('after the book there are %d bytes, and %d plans of %d posts take %d' % (len(data) - at, k, posts, 8 * k + k * posts))
+    names = [choice_name(post, stages[n + 1:]) for n, stage in enumerate(stages) for post in stage]
     out = ['# a record: a book of %d words, K = %d, k = %d' % (w, most, k), '']
     out.append(text_of_words(words))
     for j in range(k):
         cost = int.from_bytes(data[at + 8 * j:at + 8 * j + 8], 'little', signed=True)
         start = at + 8 * k + j * posts
-        out += plan_lines(j + 1, cost, whole, data[start:start + posts])
+        out += plan_lines(j + 1, cost, whole, data[start:start + posts], names)
     return '\n'.join(out) + '\n'
 
 

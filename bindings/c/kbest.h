@@ -3,8 +3,9 @@
  * A book is an array of signed 32-bit words: D, H, L, the posts of each stage, the choices of each post, then the left and the right column.
  * A choice has at most 6 next posts. The weights of a choice before stage H add to at most D. What is missing is the chance, over D, that the tour
  * stops after that choice: the day then costs the choices made so far. A choice without next posts before stage H is a sure stop.
+ * A post has 1 to 8 choices. At stage H they are the depots where the tour may end: none has next posts, and each has its own cost.
  * A cost of KBEST_CLOSED marks a choice as closed: no plan takes it, and none reaches a post with every choice closed. So a book may have no plan.
- * A plan has one byte for each of the book's S posts: the choice of a reached post, 255 for any other.
+ * A plan has one byte for each of the book's S posts: the choice of a reached post, at stage H the depot; 255 for any other.
  * Costs are exact and stand over D^H: divide by kbest_power(D, H) for the expected total cost.
  * A planners' table is an array of the same kind: D, H, n, the first state, L, the choices of each of the n states, then the left and the right column, the
  * last n lines closing ones. It has rewards, to be raised, and the same states and choices at every stage; kbest_convert makes a book of it.
@@ -28,8 +29,8 @@ extern "C" {
 #endif
 
 /* The version of this header, as text and as a number: the first x 10,000 + the second x 100 + the third. */
-#define KBEST_VERSION_TEXT "1.5.0"
-#define KBEST_VERSION 10500
+#define KBEST_VERSION_TEXT "1.6.0"
+#define KBEST_VERSION 10600
 
 /* The version of the library that is linked, as a number. */
 uint32_t kbest_version(void);
@@ -97,7 +98,7 @@ static inline const char *kbest_question(uint32_t number) {
     case KBEST_POST_COUNTS: return "are there H + 1 post counts?";
     case KBEST_POSTS: return "is there one post at stage 0, are there 1 to 16 at every other, and at most 64 in all?";
     case KBEST_BOOK_LENGTH: return "is the length exactly 4 + H + S + 2L words?";
-    case KBEST_CHOICES: return "has each post 1 to 8 choices, and 1 at stage H?";
+    case KBEST_CHOICES: return "has each post 1 to 8 choices?";
     case KBEST_LINES_USED: return "is every r from 0 to 6, and 0 at stage H, do all lines fit, and are exactly L used?";
     case KBEST_COST: return "is every cost from -100,000 to 100,000, or 200,000 where the choice is closed?";
     case KBEST_NEXT_POST: return "do the next posts of each choice rise strictly and lie within the next stage?";

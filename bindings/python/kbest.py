@@ -1,9 +1,10 @@
 """The K best plans of a tour book, over the shared library that is linked from libkbest_c.a.
 
 A book is a sequence of 32-bit words, as is a planners' table; a plan and a record are bytes. Costs are exact and stand over D^H. Where the weights of a
-choice before the last stage add to less than D, the tour may stop after it: what is missing is the chance, over D. A choice whose cost is CLOSED is in no plan,
-and neither is a post with every choice closed, so a book may have no plan. A refusal raises Refused, which has the number and the text of the first question
-that is answered no. The first call loads the library: KBEST_LIBRARY names it; else it is looked for where the build puts it.
+choice before the last stage add to less than D, the tour may stop after it: what is missing is the chance, over D. At the last stage the choices of a post are
+the depots where the tour may end, and a plan's byte there is the depot chosen. A choice whose cost is CLOSED is in no plan, and neither is a post with every
+choice closed, so a book may have no plan. A refusal raises Refused, which has the number and the text of the first question that is answered no. The first call
+loads the library: KBEST_LIBRARY names it; else it is looked for where the build puts it.
 """
 
 import ctypes
@@ -13,8 +14,8 @@ import pathlib
 import threading
 
 # of this module, as text and as the number that version() gives of the library
-VERSION_TEXT = '1.5.0'
-VERSION = 10500
+VERSION_TEXT = '1.6.0'
+VERSION = 10600
 
 BOOK_MOST = 4172
 POSTS_MOST = 64
@@ -35,7 +36,7 @@ QUESTIONS = {
     5: 'are there H + 1 post counts?',
     6: 'is there one post at stage 0, are there 1 to 16 at every other, and at most 64 in all?',
     7: 'is the length exactly 4 + H + S + 2L words?',
-    8: 'has each post 1 to 8 choices, and 1 at stage H?',
+    8: 'has each post 1 to 8 choices?',
     9: 'is every r from 0 to 6, and 0 at stage H, do all lines fit, and are exactly L used?',
     10: 'is every cost from -100,000 to 100,000, or 200,000 where the choice is closed?',
     11: 'do the next posts of each choice rise strictly and lie within the next stage?',

@@ -1,8 +1,8 @@
 """Random cases of tests/kinds.py, every call of them put to the library and to the rules of the documents by enumeration: all must agree.
 
-The cases are accepted books of many shapes, with closed choices and without a plan too, books with a fault for each question, words that are none, plans and
-records with a fault, planners' tables, and counts and rooms at their limits. Each call must have given every number that it can give, so that no question goes
-untried.
+The cases are accepted books of many shapes, with closed choices, with depots and without a plan too, books with a fault for each question, words that are none,
+plans and records with a fault, planners' tables, and counts and rooms at their limits. Each call must have given every number that it can give, so that no
+question goes untried.
 """
 
 import ctypes
@@ -151,7 +151,7 @@ def compare(case, seen):
 def drawn():
     """Cases of every kind but pages, which are no call of the library, desks, which test_desk.py compares, and books that the reference cannot enumerate."""
     for name in kinds.KINDS:
-        if name not in ('page', 'desk', 'desk, closed', 'vast'):
+        if name not in ('page', 'desk', 'desk, closed', 'desk, depots', 'vast'):
             for n in range(FEW if name in SLOW else TABLES if name == 'convert' else MANY):
                 yield kinds.make(SEED, n, name)
 

@@ -1,17 +1,18 @@
 //! The K best plans of a tour book: a safe wrapper of the static library `libkbest_c.a`.
 //!
 //! A book is a slice of 32-bit words, as is a planners' table; a plan has one byte for each post. Costs are exact and stand over D^H. Where the weights of a
-//! choice before the last stage add to less than D, the tour may stop after it: what is missing is the chance, over D. A choice whose cost is `CLOSED` is in
-//! no plan, and neither is a post with every choice closed, so a book may have no plan. Each call takes any slice of any length and any count; what cannot be
-//! answered is refused with the first question that is answered no. Nothing is allocated here.
+//! choice before the last stage add to less than D, the tour may stop after it: what is missing is the chance, over D. At the last stage the choices of a post
+//! are the depots where the tour may end, and a plan's byte there is the depot chosen. A choice whose cost is `CLOSED` is in no plan, and neither is a post
+//! with every choice closed, so a book may have no plan. Each call takes any slice of any length and any count; what cannot be answered is refused with the
+//! first question that is answered no. Nothing is allocated here.
 
 use std::fmt;
 use std::num::NonZeroU32;
 
 /// The version of this wrapper as text.
-pub const VERSION_TEXT: &str = "1.5.0";
+pub const VERSION_TEXT: &str = "1.6.0";
 /// The same as a number: the first × 10,000 + the second × 100 + the third.
-pub const VERSION: u32 = 10500;
+pub const VERSION: u32 = 10600;
 
 /// The longest book in words.
 pub const BOOK_MOST: usize = 4172;
@@ -41,7 +42,7 @@ pub const QUESTIONS: [&str; 28] = [
     "are there H + 1 post counts?",
     "is there one post at stage 0, are there 1 to 16 at every other, and at most 64 in all?",
     "is the length exactly 4 + H + S + 2L words?",
-    "has each post 1 to 8 choices, and 1 at stage H?",
+    "has each post 1 to 8 choices?",
     "is every r from 0 to 6, and 0 at stage H, do all lines fit, and are exactly L used?",
     "is every cost from -100,000 to 100,000, or 200,000 where the choice is closed?",
     "do the next posts of each choice rise strictly and lie within the next stage?",
