@@ -55,8 +55,7 @@ impl<'a> Book<'a> {
 
     /// Questions 8 to 13.
     fn check(&self) -> u32 {
-        let closing = self.s - self.sizes[self.h] as usize;
-        if self.counts[..closing].iter().any(|n| !(1..=8).contains(n)) || self.counts[closing..].iter().any(|&n| n != 1) {
+        if self.counts.iter().any(|n| !(1..=8).contains(n)) {
             return 8;
         }
         let (mut lowest, mut largest, mut line, mut post) = (u32::MAX, 0, 0, 0);

@@ -197,7 +197,7 @@ module _ (ws : Words) (ok : bookNumber ws ≡ 0) (p : ℕ) (l : p < stateCount w
             reach-same (action ws) c p 0 (0 ∷ []) bs
             (rw (zero-add p) (no-transitions c ∙ sym (no-transitions (byteAt bs p))))
 
-        -- "The definition of plan .. follow[s] without a second rule": with any open action of p in place of its own it is a policy
+        -- "The definition of plan, the order and the record follow without a second rule": with any open action of p for its own it is a policy
         pub other-depot : T (isPolicy ws (set bs p c))
         other-depot =
             policy-bytes ws ok (set bs p c) .1

@@ -14,7 +14,8 @@ Policy = List ℕ
 abbrev pub nexts : List Transition → List ℕ
 nexts ts = map (λ (t : Transition). t .next) ts
 
--- "for a reached post its choice (one of that post's, counted from 0), for any other 255": the bytes allowed at a state
+-- "for a reached post its choice (one of that post's, counted from 0), for any other 255": the bytes allowed at a state. 2.9: "a plan's byte at a reached
+-- last post is the depot chosen"
 abbrev pub allowed : List ℕ → Bool → List ℕ
 allowed os true = os
 allowed os false = 255 ∷ []
