@@ -24,8 +24,8 @@ impl Random {
 }
 
 /// What a book of random costs and weights looks like. `transitions(i)` is how many next posts the i-th choice has. Of 100 choices before the last stage,
-/// `stops` leave a part of the scale missing; these have as many next posts or fewer. `closed` of 100 are closed. A post of the last stage has `depots` choices;
-/// where there are several, `closed` of 100 of these are closed too.
+/// `stops` leave a part of the scale missing; these have as many next posts or fewer. `closed` of 100 are closed. A post of the last stage has `depots`
+/// choices; where there are several, `closed` of 100 of these are closed too.
 struct Shape<'a> {
     scale: i32,
     sizes: &'a [i32],

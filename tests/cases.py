@@ -958,7 +958,8 @@ def depot_limits():
     yield 9, 'a line for no depot', with_words(DEPOTS, (at.counts[-1], 1))
     for x in (5000, 5001, -5000, -5001):
         yield 13, 'cost %d of the last of eight depots' % x, deep_depots(*range(7), x)
-        yield 13, 'cost %d of a depot at a post that no plan reaches' % x, books.build(100, [1] * 7 + [2], [[(1, [(0, 100)])]] * 7 + [[(1, [])], [(2, []), (x, [])]])
+        far = books.build(100, [1] * 7 + [2], [[(1, [(0, 100)])]] * 7 + [[(1, [])], [(2, []), (x, [])]])
+        yield 13, 'cost %d of a depot at a post that no plan reaches' % x, far
         yield 13, 'cost %d of a depot beside a closed one' % x, deep_depots(CLOSED, x)
 
 
@@ -976,7 +977,8 @@ def depot_list_cases():
     yield 'sixteen posts with eight depots', thorough(row_of_depots(1, [8] * 16), 1, 64)
     yield 'two of sixteen posts with eight depots', thorough(row_of_depots(2, [8] * 16, 9), 64)
     yield 'depots at a post that no plan reaches', thorough(row_of_depots(1, [1, 8]), 64)
-    yield 'depots after a stop', thorough(books.build(3, [1, 2], [[(4, [(0, 1), (1, 1)]), (1, []), (2, [(1, 2)])], [(5, []), (-9, [])], [(0, []), (0, []), (8, [])]]), 64)
+    yield 'depots after a stop', thorough(books.build(3, [1, 2], [[(4, [(0, 1), (1, 1)]), (1, []), (2, [(1, 2)])],
+                                                                [(5, []), (-9, [])], [(0, []), (0, []), (8, [])]]), 64)
     yield 'depots of costs at both ends', thorough(one_line(100000, -100000, 99999, -99999, cost=-100000), 64)
     yield 'depots, H 8', thorough(deep_depots(3, 1, 4, 1, 5), 1, 64)
 
@@ -1020,15 +1022,18 @@ def depot_record_cases():
     words = one_line(3, 1, 2)
     listed = ref.ranking(words, 3)
     firsts = [row for row in listed if row[1][1] == 0]
-    for name, rows in (('the first depot alone', firsts), ('the first depot three times', firsts * 3), ('the depots in their order', sorted(listed, key=lambda row: row[1])),
-                       ('a depot that is not there', listed[:2] + [(9, (0, 3))]), ('no depot', [(cost, (0, 255)) for cost, _ in listed])):
+    others = [('the first depot alone', firsts), ('the first depot three times', firsts * 3),
+              ('the depots in their order', sorted(listed, key=lambda row: row[1])), ('a depot that is not there', listed[:2] + [(9, (0, 3))]),
+              ('no depot', [(cost, (0, 255)) for cost, _ in listed])]
+    for name, rows in others:
         content = kinds.as_record(words, 3, len(rows), rows)
         yield 'a list with ' + name, [put(content), accept(len(content))] + show(0, len(content))
     for n in (1, 2, 8, 9):
         record = ref.record(one_line(*range(n)), 64)
         yield 'the record of a book with %d depots' % n, [put(record), accept(len(record))] + [c for j in (0, n - 1, n) for c in show(j, len(record))]
     short = kinds.record_input(random.Random('opening:188'), kinds.WITHOUT_CLOSED)[:BOOK - OUT]
-    yield 'desk: an opening with two closing choices and a line for one', joined(opened(3), ask(0, 1), commit(0), ask(1, 2), opening(short), commit(1), ask(2, 3))
+    again = joined(opened(3), ask(0, 1), commit(0), ask(1, 2), opening(short), commit(1), ask(2, 3))
+    yield 'desk: an opening with two closing choices and a line for one', again
 
 
 def largest_with_depots():

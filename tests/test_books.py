@@ -282,7 +282,7 @@ class Depots(unittest.TestCase):
         self.assertGreater(min(tied, apart), 20)
 
     def test_costs(self):
-        """Costs without their signs grow by as much as depots cost more: with every depot of a post a second dearer, by the weight of the days that end there."""
+        """Another depot moves a plan's cost by the weight of the days that end at the post, which is what a second more there adds, times the difference."""
         rng, several = random.Random('dearer'), 0
         for _ in range(100):
             words = books.draw(rng, rng.choice([books.depots, books.depots_alone, books.depots_closed]))

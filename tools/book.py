@@ -121,8 +121,8 @@ class Reader:
 
 
 class BookReader(Reader):
-    """What the lines say so far: stages of posts of choices, each choice [cost, [(next post, weight)]]. And the stops, each (line, stage, choice, weight), and the
-    depots, each (line, stage): only the whole text can say whether the weight is the one due, and which stage is the last."""
+    """What the lines say so far: stages of posts of choices, each choice [cost, [(next post, weight)]]. And the stops, each (line, stage, choice, weight), and
+    the depots, each (line, stage): only the whole text can say whether the weight is the one due, and which stage is the last."""
 
     KIND, SIZES = 'book', ('scale',)
     FORMS = {

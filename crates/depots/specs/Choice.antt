@@ -13,7 +13,7 @@ use native.Mathlib.Omega.{arith}
 use borrow.Author.Tests.{eqb-true, eqb-false, eq-eqb, ne-eqb}
 use lib.Dec.{T, eqb}
 use lib.IntN.{ℤ, pos, negsuc, natAbs, _+ℤ_, _-ℤ_, _*ℤ_, +ℤ-idr, +ℤ-comm, +ℤ-invr, +ℤ-negℤ-cancel, -ℤ-+ℤ-cancel}
-use lib.Signed.{_<ℤ_}
+use lib.Signed.{_≤ℤ_, _<ℤ_, <ℤ-irrefl}
 use lib.ListN.{length, getElem?, take, drop, set, length-set}
 use lib.Seq.{getD-set-same, getD-set-other}
 use Rattle.model.specs.Lists.{count}
@@ -21,15 +21,16 @@ use Rattle.model.specs.Model.{Words, Transition, Action, weightsOf, scale, hori
 use Rattle.model.specs.Questions.{bookNumber}
 use Rattle.model.specs.Policy.{Policy, nexts, isPolicy, policies, onward}
 use Rattle.model.specs.Path.{byteAt, taken, paths, policyCost}
-use Rattle.model.specs.Recursion.{costToGo}
+use Rattle.model.specs.Recursion.{costToGo, bestOf, leastOf, feasible, leastAt}
 use Rattle.model.specs.Order.{comesBefore, ranking}
 use Rattle.laws.specs.Int.{up, dn, ints, lt-in, eq-in, sum-is, scale-is, abs-mul}
 use Rattle.laws.specs.Members.{In, AtNexts}
 use Rattle.laws.specs.Paths.{cost-paths}
+use Rattle.laws.specs.Best.{best-in, best-le, best-low}
 use Rattle.laws.specs.Policies.{reachedFrom, reached-late, FirstDifference}
 use Rattle.laws.specs.Raises.{raise, riseAt, weightPast, one-raised}
 use Rattle.questions.specs.Stages.{stage-is, of-stage}
-use Rattle.accepted.specs.Options.{Option}
+use Rattle.accepted.specs.Options.{Option, options-rising}
 use Rattle.accepted.specs.Shape.{policy-is, shape, togo-start, weights-bound}
 use Rattle.accepted.specs.Demands.{reached, policy-bytes, cost-recursion, comes-before-is, in-list, above-all}
 use Rattle.splits.specs.Reach.{weightsBefore, reached-on, known-weight, reach-moves-by}
@@ -85,6 +86,22 @@ reach-same act c (suc i) p reach (b ∷ bs) e =
 
 -- ---- a last state
 
+-- action c of state p is a better depot than the policy's own: "if its cost is lower, or equal with the lower choice"
+abbrev pub Better : Words → Policy → ℕ → ℕ → Type 0
+Better ws bs p c = (action ws p c .cost <ℤ taken ws bs p .cost) ⊎ ((action ws p c .cost ≡ taken ws bs p .cost) × (c < byteAt bs p))
+
+better-other : (ws : Words) (bs : Policy) (p c : ℕ) → Better ws bs p c → c ≡ byteAt bs p → ⊥
+unfolding taken
+better-other ws bs p c (inl h) e = <ℤ-irrefl (rw e at h)
+better-other ws bs p c (inr h) e = omega (arith, h .1)
+
+-- d is the first best depot of state p
+pub record LeastDepot (ws : Words) (p d : ℕ) : Type 0 where
+  pub opened : Option ws p d
+  pub least : leastAt ws p ≡ some (action ws p d .cost)
+  pub cheapest : (c : ℕ) → Option ws p c → action ws p d .cost ≤ℤ action ws p c .cost
+  pub lowest : (c : ℕ) → Option ws p c → action ws p c .cost ≤ℤ action ws p d .cost → d ≤ c
+
 module _ (ws : Words) (ok : bookNumber ws ≡ 0) (p : ℕ) (l : p < stateCount ws) (last : stage ws p ≡ horizon ws) where
   last-togo : togo ws p ≡ 0
   unfolding togo
@@ -106,6 +123,26 @@ module _ (ws : Words) (ok : bookNumber ws ≡ 0) (p : ℕ) (l : p < stateCount w
       go : (ts : List Transition) → AtNexts (λ q. togo ws p ≡ suc (togo ws q)) ts → ts ≡ []
       go [] h = refl
       go (t ∷ ts) h = absurd (omega (arith, last-togo, h .0))
+
+  -- equation (5) at stage H: the least cost of a post with an open depot is the least closing cost of its open depots, and that of the lowest such depot
+  pub depot-least : (c : ℕ) → Option ws p c → (d : ℕ) × LeastDepot ws p d
+  unfolding leastAt feasible
+  depot-least c o = (
+    bestOf closing (options ws p),
+    record {
+      opened = best-in closing (options ws p) c o;
+      least = rw last-togo (go (options ws p) o);
+      cheapest = λ e i. best-le closing (options ws p) i;
+      lowest = λ e i h. best-low closing (options ws p) (options-rising ws p) i h;
+    },
+  )
+    where
+      closing : ℕ → ℤ
+      closing e = action ws p e .cost
+
+      go : (xs : List ℕ) → In c xs → leastOf closing xs ≡ some (closing (bestOf closing xs))
+      go [] i = absurd i
+      go (x ∷ xs) i = refl
 
   module _ (bs : Policy) (t : T (isPolicy ws bs)) where
     -- the sum, over all ways to p, of the product of the weights on the way
@@ -225,10 +262,8 @@ module _ (ws : Words) (ok : bookNumber ws ≡ 0) (p : ℕ) (l : p < stateCount w
             ∙ ap₂ (λ (z : ℤ) (n : ℕ). z +ℤ pos n *ℤ (taken ws (set bs p c) p .cost -ℤ taken ws bs p .cost)) (sym (cost-recursion ws ok bs t)) ways-is
             ∙ ap (λ (b : ℕ). policyCost ws bs +ℤ pos (weightPast p (paths ws bs)) *ℤ (action ws p b .cost -ℤ taken ws bs p .cost)) byte-there
 
-        -- "if its cost is lower, or equal with the lower choice": the cheaper depot comes first, and of two that cost the same the lower number
-        pub depot-before : (c ≡ byteAt bs p → ⊥)
-            → T (comesBefore ws (set bs p c) bs)
-            ↔ ((action ws p c .cost <ℤ taken ws bs p .cost) ⊎ ((action ws p c .cost ≡ taken ws bs p .cost) × (c < byteAt bs p)))
+        -- the cheaper depot comes first, and of two that cost the same the lower number
+        pub depot-before : (c ≡ byteAt bs p → ⊥) → T (comesBefore ws (set bs p c) bs) ↔ Better ws bs p c
         depot-before n = (λ b. to (is .0 b), λ s. is .1 (from s))
           where
             first : FirstDifference (action ws) (stateCount ws) 0 (0 ∷ []) (set bs p c) bs
@@ -242,13 +277,12 @@ module _ (ws : Words) (ok : bookNumber ws ≡ 0) (p : ℕ) (l : p < stateCount w
             }
 
             Costs : Type 0
-            Costs = (policyCost ws (set bs p c) <ℤ policyCost ws bs) ⊎ ((policyCost ws (set bs p c) ≡ policyCost ws bs) × (byteAt (set bs p c) p < byteAt bs p))
+            Costs =
+                (policyCost ws (set bs p c) <ℤ policyCost ws bs)
+                ⊎ ((policyCost ws (set bs p c) ≡ policyCost ws bs) × (byteAt (set bs p c) p < byteAt bs p))
 
             is : T (comesBefore ws (set bs p c) bs) ↔ Costs
             is = comes-before-is ws ok (set bs p c) bs other-depot t first
-
-            Depots : Type 0
-            Depots = (action ws p c .cost <ℤ taken ws bs p .cost) ⊎ ((action ws p c .cost ≡ taken ws bs p .cost) × (c < byteAt bs p))
 
             below : (policyCost ws (set bs p c) <ℤ policyCost ws bs) ↔ (action ws p c .cost <ℤ taken ws bs p .cost)
             below = rw depot-cost (moved-below (policyCost ws bs) (action ws p c .cost) (taken ws bs p .cost) (weightPast p (paths ws bs)) some-end)
@@ -256,11 +290,11 @@ module _ (ws : Words) (ok : bookNumber ws ≡ 0) (p : ℕ) (l : p < stateCount w
             equal : (policyCost ws (set bs p c) ≡ policyCost ws bs) ↔ (action ws p c .cost ≡ taken ws bs p .cost)
             equal = rw depot-cost (moved-same (policyCost ws bs) (action ws p c .cost) (taken ws bs p .cost) (weightPast p (paths ws bs)) some-end)
 
-            to : Costs → Depots
+            to : Costs → Better ws bs p c
             to (inl h) = inl (below .0 h)
             to (inr h) = inr (equal .0 (h .0), rw byte-there at (h .1))
 
-            from : Depots → Costs
+            from : Better ws bs p c → Costs
             from (inl h) = inl (below .1 h)
             from (inr h) = inr (equal .1 (h .0), rw byte-there (h .1))
 
@@ -270,7 +304,6 @@ module _ (ws : Words) (ok : bookNumber ws ≡ 0) (p : ℕ) (l : p < stateCount w
           depot-listed = (λ j. in-list ws ok K (set bs p c) .0 j .1, λ h. in-list ws ok K (set bs p c) .1 (other-depot, h))
 
           -- where a list has a plan, the same plan with a better depot stands above it
-          pub better-above : (j : ℕ) → getElem? (ranking ws K) j ≡ some bs → (c ≡ byteAt bs p → ⊥)
-              → ((action ws p c .cost <ℤ taken ws bs p .cost) ⊎ ((action ws p c .cost ≡ taken ws bs p .cost) × (c < byteAt bs p)))
+          pub better-above : (j : ℕ) → getElem? (ranking ws K) j ≡ some bs → Better ws bs p c
               → (k : ℕ) × (k < j) × (getElem? (ranking ws K) k ≡ some (set bs p c))
-          better-above j e n h = above-all ws ok K j bs (set bs p c) e other-depot (depot-before n .1 h)
+          better-above j e h = above-all ws ok K j bs (set bs p c) e other-depot (depot-before (better-other ws bs p c h) .1 h)

@@ -69,7 +69,7 @@ module _ (f : ℕ → ℤ) where
   best-cases [] = inl refl
   best-cases (x ∷ xs) = inr (least-in x xs)
 
-  best-le : (xs : List ℕ) {z : ℕ} → In z xs → f (bestOf f xs) ≤ℤ f z
+  pub best-le : (xs : List ℕ) {z : ℕ} → In z xs → f (bestOf f xs) ≤ℤ f z
   best-le [] i = absurd i
   best-le (x ∷ xs) i = least-le x xs i
 
