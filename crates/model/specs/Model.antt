@@ -1,6 +1,7 @@
 -- What the words of a book say. Total on any words: Questions.antt says which words are a book, and no later question is put where an earlier one is
 -- answered no, so what these definitions say of other words is never used.
--- Document 01's terms: model = book, state = post, action = choice, transition = line (below a choice's first), policy = plan, sample path = day.
+-- Document 01's terms: model = book, state = post, action = choice, transition = line (below a choice's first), policy = plan, sample path = day,
+-- terminal cost = closing cost; request 2.9: a depot is an action of a state of stage H.
 -- Assumes nothing.
 use Prim.Native.Nat.{ℕ, zero, suc, _+_, _-_}
 use mathlib.Core.Bool.{Bool, false, not, _&&_, cond}
