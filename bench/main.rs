@@ -312,7 +312,7 @@ fn assert_small_books(rng: &mut Random, closed: i32, most_depots: i32) -> usize 
             compared += 1;
         }
     }
-    assert!(if closed == 0 { without_plan == 0 } else { (50..700).contains(&without_plan) }, "{without_plan} books have no plan");
+    assert!(if closed == 0 { without_plan == 0 } else { (100..700).contains(&without_plan) }, "{without_plan} books have no plan");
     compared
 }
 

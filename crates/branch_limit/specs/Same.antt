@@ -96,7 +96,7 @@ module _ (ws : Words) where
 
 -- ---- the calls
 
--- the same list and record bytes, and the same answer of every other call
+-- the same list and record bytes, and the same answers of checking, valuing and the least cost
 pub calls-same : (ws : Words) → WithinLimit ws → SameCalls formerNumber ws
 calls-same ws few = same-calls formerNumber ws (number-same ws few)
 

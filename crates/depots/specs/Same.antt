@@ -76,7 +76,7 @@ module _ (ws : Words) where
 
 -- ---- the calls
 
--- "Books with one closing choice a post give the same records": and the same answer of every other call
+-- "Books with one closing choice a post give the same records": and the same list, and the same answers of checking, valuing and the least cost
 pub calls-same : (ws : Words) → OneClosing ws → SameCalls formerNumber ws
 calls-same ws one = same-calls formerNumber ws (number-same ws one)
 
