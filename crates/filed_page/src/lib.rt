@@ -8,9 +8,6 @@ ghost use Rattle.page_lines.specs.Put.{Put};
 // One byte more than the longest record has.
 const MOST_READ: usize = 21309;
 
-// No page is longer.
-const MOST_PAGE: usize = 90112;
-
 // Where a program puts what it reads. A shorter one would cut off the byte by which a record is too long.
 pub fn buffer() -> [u8; MOST_READ]
     ensures { λ r. ⌜ length r ≡ suc mostRecord ⌝ }
@@ -22,16 +19,13 @@ pub fn buffer() -> [u8; MOST_READ]
 pub fn print_record(r: &[u8], out: &mut [u8]) -> usize
     ensures { λ q. ⌜ Put mostPage (recordPage (now (r .entry))) (now (out .entry)) (now (out .exit)) q ⌝ }
 {
-    if out.len() < MOST_PAGE {
-        return 0;
-    }
     let a = accept::accept(r);
-    if a.no != 0 {
-        return page_lines::put_refused(out, a.no);
-    }
     let mut words = record::no_book();
+    if a.no != 0 {
+        return page::put_page(a.no, &words[..0], 0, out);
+    }
     record::read_book(r, &mut words);
     let w = record::carried_length(r);
     let k = record::carried_k(r);
-    page::put_list(&words[..w], k, out)
+    page::put_page(0, &words[..w], k, out)
 }

@@ -22,10 +22,10 @@ pub fn file_record(input: &[u8], out: &mut [u8]) -> usize
         return 0;
     }
     let q = input::read(input);
-    if q.no != 0 {
-        return page_lines::put_refused(out, q.no);
-    }
     let words = q.words;
     let w = write::write(&words[..q.n], q.k, out);
+    if w.no != 0 {
+        return page_lines::put_refused(out, w.no);
+    }
     w.length
 }

@@ -1,7 +1,6 @@
 -- The number, the count and the book of bytes of which every one counts, and that no later byte does.
 -- Assumes nothing.
 use mathlib.Core.Path.{_≡_, ap, _∙_}
-use mathlib.Core.Bool.{cond}
 use mathlib.Core.List.{List}
 use Prim.Native.Nat.{ℕ, _-_, _/_, _%_, _≤_, _<_}
 use borrow.Author.Tests.{le-leb, lt-leb, eq-eqb, ne-eqb}
@@ -10,9 +9,10 @@ use lib.ListN.{length, take, drop}
 use lib.Seq.{take-all, take-at, take-take}
 use native.Mathlib.Omega.{arith}
 use Rattle.model.specs.Bytes.{fromBytes, wordsOf}
+use Rattle.model.specs.Questions.{firstNo, bookNumber}
 use Rattle.model.specs.Record.{askedNumber}
 use Rattle.model.specs.Calls.{over}
-use Rattle.model.specs.Page.{mostInput, wholeWords, inputCount, inputBook, inputNumber}
+use Rattle.model.specs.Page.{mostInput, inputCount, inputBook, inputNumber}
 use Rattle.bytes_io.proofs.Numbers.{length-words}
 use Rattle.input.specs.declared.Input.{Input}
 use Rattle.input.specs.Read.{Read}
@@ -42,21 +42,28 @@ module _ (r : List ℕ) (h : length r ≤ mostInput) where
       ap (take (length r / 4 - 1)) e ∙ take-at (wordsOf (length r / 4 - 1) (drop 4 r)) _ (length r / 4 - 1) (length-words (length r / 4 - 1) (drop 4 r))
       ∙ rw (take-all mostInput r h)
 
--- a refusal says nothing of K and the book
-pub refused : {input : List ℕ} {q : Input} → (q .no ≡ 1) × (q .n ≡ 0) → 1 ≡ inputNumber input → Read input q
-refused {input} {q} e i = record { number = e .0 ∙ i; inside = omega (arith, e .1); count = λ z. absurd (other z); book = λ z. absurd (other z) }
+-- question 1 refuses a book without words
+pub refused : {input : List ℕ} {q : Input} → q .n ≡ 0 → 1 ≡ inputNumber input → Read input q
+unfolding askedNumber bookNumber firstNo
+refused {input} {q} e i = record {
+  inside = omega (arith, e);
+  counted = rw e;
+  number = ap (λ (n : ℕ). askedNumber (take n (q .words)) (q .k)) e ∙ i;
+  count = λ z. absurd (other z);
+  words = λ z. absurd (other z);
+}
   where
-    other : q .no ≡ 0 → ⊥
-    other z = omega (arith, e .0, z)
+    other : inputNumber input ≡ 0 → ⊥
+    other z = omega (arith, i, z)
 
 pub front : (input : List ℕ) {q : Input} → Read (take mostInput input) q → Read input q
 unfolding inputNumber inputCount inputBook
-front input d = record {
-  number = d .number ∙ ap (λ (t : List ℕ). cond (wholeWords t) (askedNumber (wordsOf (length t / 4 - 1) (drop 4 t)) (fromBytes (take 4 t))) 1) again;
-  inside = d .inside;
-  count = λ z. d .count z ∙ ap (λ (t : List ℕ). fromBytes (take 4 t)) again;
-  book = λ z. d .book z ∙ ap (λ (t : List ℕ). wordsOf (length t / 4 - 1) (drop 4 t)) again;
-}
-  where
-    again : take mostInput (take mostInput input) ≡ take mostInput input
-    again = take-take mostInput mostInput input (omega arith)
+front input {q} d =
+    let again = take-take mostInput mostInput input (omega arith) in
+    record {
+      inside = d .inside;
+      counted = d .counted;
+      number = rw again at (d .number);
+      count = rw again at (d .count);
+      words = rw again at (d .words);
+    }

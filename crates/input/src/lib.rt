@@ -1,4 +1,4 @@
-// K and a book from the bytes that a program has read, with the questions 1 to 14 and 28.
+// K and a book from the bytes that a program has read.
 ghost use mathlib.Core.Path.{_≡_};
 ghost use Prim.Native.Nat.{_≤_};
 ghost use lib.ListN.{length};
@@ -8,9 +8,8 @@ ghost use Rattle.input.specs.Read.{Read};
 // The bytes of the input that count: K, the longest book and one word more.
 const MOST_INPUT: usize = 16696;
 
-// The number of the first question that is answered no, or 0; K; the book, which is the first n of the words.
+// K, and the book, which is the first n of the words. Of what is no count and whole words after it n is 0: question 1 refuses a book without words.
 pub struct Input {
-    pub no: u32,
     pub k: usize,
     pub n: usize,
     pub words: [i32; 4173],
@@ -23,21 +22,14 @@ pub fn buffer() -> [u8; MOST_INPUT]
     [0; MOST_INPUT]
 }
 
-fn no_words() -> [i32; 4173]
-    ensures { λ r. ⌜ length r ≡ 4173 ⌝ }
-{
-    [0; 4173]
-}
-
-// What is no count and whole words after it: refused by 1.
+// No words, and room for those of any input.
 fn no_input() -> Input
-    ensures { λ q. ⌜ (q .no ≡ 1) × (q .n ≡ 0) ⌝ }
+    ensures { λ q. ⌜ (q .n ≡ 0) × (length (q .words) ≡ 4173) ⌝ }
 {
     Input {
-        no: 1,
         k: 0,
         n: 0,
-        words: no_words(),
+        words: [0; 4173],
     }
 }
 
@@ -46,19 +38,18 @@ fn read_counted(r: &[u8]) -> Input
     requires { ⌜ length (now r) ≤ mostInput ⌝ }
     ensures { λ q. ⌜ Read (now (r .entry)) q ⌝ }
 {
+    let q = no_input();
     if r.len() < 4 {
-        return no_input();
+        return q;
     }
     if r.len() % 4 != 0 {
-        return no_input();
+        return q;
     }
-    let mut words = no_words();
     let n = r.len() / 4 - 1;
     let k = bytes_io::read4(r, 0) as usize;
+    let mut words = q.words;
     bytes_io::read_words(r, 4, n, &mut words);
-    let no = asked::asked_number(&words[..n], k);
     Input {
-        no: no,
         k: k,
         n: n,
         words: words,

@@ -2,7 +2,7 @@
 ghost use mathlib.Core.Path.{_≡_};
 ghost use Prim.Native.Nat.{_≤_};
 ghost use lib.ListN.{length};
-ghost use Rattle.model.specs.Page.{listPage, page, mostPage};
+ghost use Rattle.model.specs.Page.{orRefused, listPage, page, mostPage};
 ghost use Rattle.asked.specs.Asked.{Asked};
 ghost use Rattle.text.specs.Text.{Appended};
 ghost use Rattle.page_lines.specs.Put.{Put};
@@ -18,7 +18,7 @@ pub fn buffer() -> [u8; MOST_PAGE]
 }
 
 // The list of a book and a count that pass the questions 1 to 14 and 28.
-pub fn put_list(b: &[i32], k: usize, out: &mut [u8]) -> usize
+fn put_list(b: &[i32], k: usize, out: &mut [u8]) -> usize
     requires { ⌜ Asked (now b) k × (mostPage ≤ length (now out)) ⌝ }
     ensures { λ r. ⌜ Appended (now (out .entry)) 0 (listPage (now (b .entry)) k) (now (out .exit)) r ⌝ }
 {
@@ -28,17 +28,26 @@ pub fn put_list(b: &[i32], k: usize, out: &mut [u8]) -> usize
     page_lines::put_lines(out, at, l)
 }
 
-// The page of any input, to the front of `out`; gives its length. A slice that may be too short gets nothing.
-pub fn print_page(input: &[u8], out: &mut [u8]) -> usize
-    ensures { λ r. ⌜ Put mostPage (page (now (input .entry))) (now (out .entry)) (now (out .exit)) r ⌝ }
+// The line of a refusal, or the list: to the front of `out`; gives its length. A slice that may be too short gets nothing.
+pub fn put_page(no: u32, b: &[i32], k: usize, out: &mut [u8]) -> usize
+    requires { ⌜ (no ≡ 0 → Asked (now b) k) ⌝ }
+    ensures { λ r. ⌜ Put mostPage (orRefused no (listPage (now (b .entry)) k)) (now (out .entry)) (now (out .exit)) r ⌝ }
 {
     if out.len() < MOST_PAGE {
         return 0;
     }
-    let q = input::read(input);
-    if q.no != 0 {
-        return page_lines::put_refused(out, q.no);
+    if no != 0 {
+        return page_lines::put_refused(out, no);
     }
+    put_list(b, k, out)
+}
+
+// The page of any input.
+pub fn print_page(input: &[u8], out: &mut [u8]) -> usize
+    ensures { λ r. ⌜ Put mostPage (page (now (input .entry))) (now (out .entry)) (now (out .exit)) r ⌝ }
+{
+    let q = input::read(input);
     let words = q.words;
-    put_list(&words[..q.n], q.k, out)
+    let no = asked::asked_number(&words[..q.n], q.k);
+    put_page(no, &words[..q.n], q.k, out)
 }

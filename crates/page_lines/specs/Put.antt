@@ -57,3 +57,9 @@ module _ {most n : ℕ} (due : List ℕ) {out : List ℕ} (h : most ≤ length o
 
   pub put-text : {out′ : List ℕ} {r : ℕ} → n ≡ 0 → Appended out 0 due out′ r → Put most (orRefused n due) out out′ r
   put-text e a = put-due e (a .end ∙ zero-add (length due)) (a .text ∙ written-front out (length due) due refl)
+
+-- the same number, and where it is 0 the same text
+pub put-same : {most m n : ℕ} {due due′ out out′ : List ℕ} {r : ℕ} → m ≡ n → (n ≡ 0 → due ≡ due′) → Put most (orRefused m due) out out′ r
+    → Put most (orRefused n due′) out out′ r
+put-same {n = zero} e d p = rw (e, d refl) at p
+put-same {n = suc n} e d p = rw e at p
