@@ -1,11 +1,9 @@
 -- `kbest_desk_ask` passes what it is given on to `desk::ask`.
 -- Assumes nothing.
 use contract.Running.{givenOf, tables, tablesOf}
-use denote.Triple.Spec.{tripleOf}
-use denote.Triple.Table.{entered, cited}
-use Rattle.desk.proofs.ask as called
 use Rattle.desk.proofs.ask.Symbol as called-def
 use Rattle.desk.proofs.ask.Met as called-thm
+use Rattle.kbest_c.proofs.Passed.{relayed}
 use Rattle.kbest_c.proofs.Desks.{ranked}
 use Rattle.kbest_c.proofs.kbest_desk_ask.Key.{name as key}
 use Rattle.kbest_c.proofs.kbest_desk_ask as export
@@ -15,8 +13,5 @@ use Rattle.kbest_c.proofs.kbest_desk_ask.Code as code
 pub kbest-desk-ask-spec : {M : Type 1} → stated.statement M
 unfolding code.routine tablesOf
 kbest-desk-ask-spec 𝓤 H 𝓜 𝓖 𝓡 =
-    entered 𝓤 H (tripleOf 𝓤 H (𝓖 .A) export.signature (export.spec 𝓤 H (𝓖 .A) (𝓜 .mem) (𝓡 .run)))
-    (tables 𝓤 H 𝓜 𝓡 code.env .C) (tables 𝓤 H 𝓜 𝓡 code.env .Λ) key code.function (code.unfolded 𝓤 H 𝓜 𝓡)
-    (ranked _ 𝓤 H (𝓖 .A) (givenOf 𝓤 H 𝓜 𝓖) (tablesOf 𝓤 H 𝓜 (tables 𝓤 H 𝓜 𝓡 code.env)) (export.spec 𝓤 H (𝓖 .A) (𝓜 .mem) (𝓡 .run))
-    (cited 𝓤 H (tripleOf 𝓤 H (𝓖 .A) called.signature (called.spec 𝓤 H (𝓖 .A) (𝓜 .mem) (𝓡 .run))) 𝓜 𝓡 code.env called-def.name called-def.routine
-    code.calls-desk·ask (called-thm.met 𝓤 H 𝓜 𝓖 𝓡)))
+    relayed 𝓤 H 𝓜 𝓡 code.env _ _ key code.function (code.unfolded 𝓤 H 𝓜 𝓡) called-def.name called-def.routine code.calls-desk·ask (called-thm.met 𝓤 H 𝓜 𝓖 𝓡)
+    (ranked _ 𝓤 H (𝓖 .A) (givenOf 𝓤 H 𝓜 𝓖) (tablesOf 𝓤 H 𝓜 (tables 𝓤 H 𝓜 𝓡 code.env)) (export.spec 𝓤 H (𝓖 .A) (𝓜 .mem) (𝓡 .run)))
