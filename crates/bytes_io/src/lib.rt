@@ -11,7 +11,7 @@ ghost use Rattle.bytes_io.specs.Slices.{written, complement};
 // ---- reading
 
 // A byte as a number of 64 bits.
-fn wide(x: u8) -> u64
+pub fn wide(x: u8) -> u64
     ensures { λ q. ⌜ (q ≡ x) × (q < 256) ⌝ }
 {
     x as u64

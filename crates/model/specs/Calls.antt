@@ -1,7 +1,7 @@
 -- What each call gives: its number, its figures, and what each lent slice holds afterwards. "A refusal carries its number and 0 for every other
 -- figure, and writes no byte. Success writes the stated front of a slice and leaves the rest as before."
 -- Assumes nothing.
-use Prim.Native.Nat.{ℕ, zero, suc, _+_, _*_, _^_}
+use Prim.Native.Nat.{ℕ, zero, suc, _*_, _^_}
 use mathlib.Core.Bool.{_&&_, cond}
 use mathlib.Core.List.{List, [], _∷_, _++_}
 use lib.IntN.{ℤ, pos}

@@ -1,2 +1,1 @@
-pub mod Title
 pub mod Part

@@ -10,7 +10,7 @@ use lib.IntN.{pos}
 use lib.ListN.{length, take, drop, getD, length-drop}
 use lib.Seq.{length-take-le}
 use Rattle.record.specs.declared.Listing.{Listing}
-use Rattle.text.specs.Text.{Appended, joined, lineText, line-long}
+use Rattle.text.specs.Text.{Appended, joined, lineText}
 use Rattle.page_lines.specs.Lines.{arrayLines}
 
 -- policy j of n ends within the array
@@ -27,10 +27,6 @@ module _ (l : Listing) (j : ℕ) (h : j * l .s + l .s ≤ length (l .plans)) whe
   pub part-long : length part ≡ l .s
   part-long = ap length part-is ∙ length-take-le (l .s) (drop (j * l .s) (l .plans)) (rw length-drop (omega arith))
 
-  module _ {o₀ o o′ : List ℕ} {at p q : ℕ} (small : l .s ≤ 64) (A : Appended o₀ at (arrayLines l j) o p)
-      (B : Appended o p (lineText (j + 1) (getD (l .costs) j (pos 0)) part) o′ q) where
-    pub next-end : q ≤ p + 1387
-    next-end = omega (arith, B .end, line-long (j + 1) (getD (l .costs) j (pos 0)) part, part-long)
-
-    pub next-line : p ≤ length o₀ → Appended o₀ at (arrayLines l (j + 1)) o′ q
-    next-line i = rw (add-one j, ← part-is) (joined (omega (arith, A .end)) A (rw (add-one j) at B))
+  pub next-line : {o₀ o o′ : List ℕ} {at p q : ℕ} → Appended o₀ at (arrayLines l j) o p
+      → Appended o p (lineText (j + 1) (getD (l .costs) j (pos 0)) part) o′ q → Appended o₀ at (arrayLines l (j + 1)) o′ q
+  next-line a b = rw (add-one j, ← part-is) (joined a (rw (add-one j) at b))

@@ -7,7 +7,7 @@ use Prim.Native.Nat.{ℕ, zero, suc, _+_, _*_, _≤_, _<_}
 use native.Mathlib.Nat.{zero-add}
 use native.Mathlib.Omega.{arith}
 use lib.IntN.{ℤ, pos}
-use lib.ListN.{length, take, drop, getD, getElem?, length-append, take-append-drop}
+use lib.ListN.{length, take, drop, getD, getElem?, take-append-drop}
 use lib.Seq.{take-all, getD-take, length-take-le}
 use Rattle.model.specs.Model.{Words, stateCount}
 use Rattle.model.specs.Questions.{bookNumber}
@@ -18,7 +18,7 @@ use Rattle.model.specs.Page.{decimal, policyLine, policyLines}
 use Rattle.laws.specs.Entries.{some-at}
 use Rattle.laws.specs.Sorting.{at-in}
 use Rattle.accepted.specs.Demands.{costs-are}
-use Rattle.text.specs.Text.{lineText, decimal-long}
+use Rattle.text.specs.Text.{lineText}
 use Rattle.record.specs.declared.Listing.{Listing}
 use Rattle.record.specs.Listed.{Listed}
 use Rattle.record.specs.Demand3.{wide, part-at}
@@ -28,11 +28,6 @@ abbrev pub titleText : ℕ → ℕ → ℕ → List ℕ
 titleText n k scale =
     decimal n ++ (32 ∷ 111 ∷ 102 ∷ 32 ∷ []) ++ decimal k
     ++ (44 ∷ 32 ∷ 115 ∷ 99 ∷ 97 ∷ 108 ∷ 101 ∷ 32 ∷ []) ++ decimal scale ++ (10 ∷ [])
-
-pub title-long : (n k d : ℕ) → length (titleText n k d) ≤ 80
-title-long n k d =
-    rw (length-append, length-append, length-append, length-append, length-append)
-    (omega (arith, decimal-long n, decimal-long k, decimal-long d))
 
 -- the first n lines
 abbrev pub arrayLines : Listing → ℕ → List ℕ

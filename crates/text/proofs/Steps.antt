@@ -3,7 +3,7 @@
 use mathlib.Core.Path.{_≡_, refl, sym, ap, _∙_, subst}
 use mathlib.Core.Bool.{true, false}
 use mathlib.Core.List.{List, [], _∷_, _++_, append-nil}
-use Prim.Native.Nat.{ℕ, _+_, _-_, _≤_, _<_}
+use Prim.Native.Nat.{ℕ, _+_, _≤_, _<_}
 use native.Mathlib.Numerals.{add-one}
 use native.Mathlib.Omega.{arith}
 use borrow.Author.Tests.{ltb-true, ne-eqb}
@@ -20,14 +20,15 @@ use Rattle.bytes_io.proofs.Parts.{written-none, set-written}
 use Rattle.text.proofs.Digits.{spelled}
 use Rattle.text.specs.Text.{Appended}
 
-pub nothing : (o : List ℕ) (at : ℕ) → Appended o at [] o at
-nothing o at = record { end = omega arith; text = sym (written-none o at) }
+pub nothing : (o : List ℕ) (at : ℕ) → at ≤ length o → Appended o at [] o at
+nothing o at h = record { end = omega arith; room = h; text = sym (written-none o at) }
 
 pub one : (o : List ℕ) (at x : ℕ) → at < length o → Appended o at (x ∷ []) (set o at x) (at + 1)
-one o at x h = record { end = refl; text = set-written o at x h }
+one o at x h = record { end = refl; room = omega arith; text = set-written o at x h }
 
-pub copied : (o : List ℕ) (at : ℕ) (t o′ : List ℕ) → o′ ≡ written o at (length t) (take (length t) t) → Appended o at t o′ (at + length t)
-copied o at t o′ e = record { end = refl; text = e ∙ ap (written o at (length t)) (take-length t) }
+pub copied : (o : List ℕ) (at : ℕ) (t o′ : List ℕ) → at + length t ≤ length o → o′ ≡ written o at (length t) (take (length t) t)
+    → Appended o at t o′ (at + length t)
+copied o at t o′ h e = record { end = refl; room = h; text = e ∙ ap (written o at (length t)) (take-length t) }
 
 pub below-zero : (x : ℤ) → ltZ x (pos 0) ≡ true → signedDecimal x ≡ (45 ∷ []) ++ decimal (natAbs x)
 below-zero (pos n) e = absurd (omega (arith, ltb-true n 0 e))

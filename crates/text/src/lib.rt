@@ -1,5 +1,5 @@
 // Text in a byte slice: numbers in base ten, and one line of the printed page. Each function writes from index `at` on and gives the index after its
-// text.
+// text, which is at most as long as the room that it asks for.
 ghost use mathlib.Core.Path.{_≡_};
 ghost use mathlib.Core.List.{[], _∷_};
 ghost use Prim.Native.Nat.{_+_, _*_, _<_, _≤_};
@@ -17,13 +17,6 @@ pub fn magnitude(x: i64) -> u64
         let d = -1 - x;
         return (d as u64) + 1;
     }
-    x as u64
-}
-
-// A byte as a number of 64 bits.
-fn wide(x: u8) -> u64
-    ensures { λ r. ⌜ r ≡ x ⌝ }
-{
     x as u64
 }
 
@@ -46,7 +39,7 @@ pub fn put_text(out: &mut [u8], at: usize, text: &[u8]) -> usize
 // A number has at most 20 digits.
 pub fn put_number(out: &mut [u8], at: usize, x: u64) -> usize
     requires { ⌜ at + 20 ≤ length (now out) ⌝ }
-    ensures { λ r. ⌜ Appended (now (out .entry)) at (decimal x) (now (out .exit)) r ⌝ }
+    ensures { λ r. ⌜ Appended (now (out .entry)) at (decimal x) (now (out .exit)) r × (r ≤ at + 20) ⌝ }
 {
     let mut digits = [0u8; 20];
     let n = io::decimal(x, &mut digits);
@@ -55,7 +48,7 @@ pub fn put_number(out: &mut [u8], at: usize, x: u64) -> usize
 
 pub fn put_signed(out: &mut [u8], at: usize, x: i64) -> usize
     requires { ⌜ at + 21 ≤ length (now out) ⌝ }
-    ensures { λ r. ⌜ Appended (now (out .entry)) at (signedDecimal x) (now (out .exit)) r ⌝ }
+    ensures { λ r. ⌜ Appended (now (out .entry)) at (signedDecimal x) (now (out .exit)) r × (r ≤ at + 21) ⌝ }
 {
     if x < 0 {
         let next = put_byte(out, at, 45);
@@ -67,18 +60,18 @@ pub fn put_signed(out: &mut [u8], at: usize, x: i64) -> usize
 // A space, then the choice, or `-` where the state is not reached.
 fn put_choice(out: &mut [u8], at: usize, x: u8) -> usize
     requires { ⌜ at + 21 ≤ length (now out) ⌝ }
-    ensures { λ r. ⌜ Appended (now (out .entry)) at (choiceText x) (now (out .exit)) r ⌝ }
+    ensures { λ r. ⌜ Appended (now (out .entry)) at (choiceText x) (now (out .exit)) r × (r ≤ at + 21) ⌝ }
 {
     let next = put_byte(out, at, 32);
     if x == 255 {
         return put_byte(out, next, 45);
     }
-    put_number(out, next, wide(x))
+    put_number(out, next, bytes_io::wide(x))
 }
 
 fn put_choices(out: &mut [u8], at: usize, plan: &[u8]) -> usize
     requires { ⌜ at + 21 * length (now plan) ≤ length (now out) ⌝ }
-    ensures { λ r. ⌜ Appended (now (out .entry)) at (forEach choiceText (now (plan .entry))) (now (out .exit)) r ⌝ }
+    ensures { λ r. ⌜ Appended (now (out .entry)) at (forEach choiceText (now (plan .entry))) (now (out .exit)) r × (r ≤ at + 21 * length (now (plan .entry))) ⌝ }
 {
     let mut p = at;
     let mut i: usize = 0;
@@ -92,7 +85,7 @@ fn put_choices(out: &mut [u8], at: usize, plan: &[u8]) -> usize
 // The rank, the cost and each state's choice, with a line feed after them.
 pub fn put_line(out: &mut [u8], at: usize, rank: u64, cost: i64, plan: &[u8]) -> usize
     requires { ⌜ at + 43 + 21 * length (now plan) ≤ length (now out) ⌝ }
-    ensures { λ r. ⌜ Appended (now (out .entry)) at (lineText rank cost (now (plan .entry))) (now (out .exit)) r ⌝ }
+    ensures { λ r. ⌜ Appended (now (out .entry)) at (lineText rank cost (now (plan .entry))) (now (out .exit)) r × (r ≤ at + 43 + 21 * length (now (plan .entry))) ⌝ }
 {
     let a = put_number(out, at, rank);
     let b = put_byte(out, a, 32);

@@ -68,7 +68,7 @@ returns c =
     (ap₂ _++_
     (ap (titleText n (s .args .k)) (t .before .power .ensures) ∙ title-is (s .args .b .now) (s .args .k) _ _ _ ok (h .count) (z .d-is) (z .h-is))
     (lines-are (s .args .b .now) ok (s .args .k) _ h))
-    (joined (omega (arith, t .put-title .ensures .0 .end, t .put-title .ensures .1, s .pre .1)) (t .put-title .ensures .0) (y .put-lines .ensures))
+    (joined (t .put-title .ensures .0) (y .put-lines .ensures))
 
 pub put-list-spec : {M : Type 1} → statement M
 put-list-spec =

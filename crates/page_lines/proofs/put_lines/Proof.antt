@@ -10,7 +10,7 @@ use mir.Syntax.{w64}
 use mir.Val.{SFits}
 use Rattle.text.specs.Text.{Appended, lineText}
 use Rattle.text.proofs.Steps.{nothing}
-use Rattle.page_lines.proofs.Part.{within, part, part-long, next-end, next-line}
+use Rattle.page_lines.proofs.Part.{within, part, part-long, next-line}
 use Rattle.page_lines.specs.Lines.{arrayLines}
 use borrow.Author.Needs.{needs}
 use Rattle.page_lines.proofs.put_lines.Statement.{statement}
@@ -18,7 +18,7 @@ use Rattle.page_lines.proofs.put_lines.Tie as tie
 
 abbrev Inv-loop : tie.InvT-loop
 Inv-loop out₀ at l plans p₀ j₀ out p j =
-    (j ≤ l .n) × (length out ≡ length out₀) × (p + 1387 * (l .n - j) ≤ length out) × Appended out₀ at (arrayLines l j) out p
+    (j ≤ l .n) × (length out ≡ length out₀) × (p ≤ at + 1387 * j) × Appended out₀ at (arrayLines l j) out p
 
 abbrev μ-loop : tie.MeasureT-loop
 μ-loop out₀ at l plans p₀ j₀ out p j = l .n - j
@@ -42,7 +42,7 @@ small c =
 loop-holds : tie.Need-loop-holds Inv-loop μ-loop
 loop-holds c =
     let s = c .before .before in
-    (omega arith, refl, omega (arith, s .pre .2), nothing (s .args .out .now) (s .args .at))
+    (omega arith, refl, omega arith, nothing (s .args .out .now) (s .args .at) (omega (arith, s .pre .2)))
 
 mul-from : tie.Need-mul-from Inv-loop μ-loop
 mul-from c = omega (arith, small c)
@@ -72,7 +72,7 @@ put-line-requires : tie.Need-put-line-requires Inv-loop μ-loop
 put-line-requires c κs =
     let i = c .before .before .before .before in
     let s = i .before .before .before .before in
-    omega (arith, part-long (s .args .t3) (i .before .loop .j) (fits i), s .pre .1, i .before .loop .inv .2)
+    omega (arith, part-long (s .args .t3) (i .before .loop .j) (fits i), s .pre .1, s .pre .2, i .before .loop .inv .2)
 
 add-j : tie.Need-add-j Inv-loop μ-loop
 add-j c = search needs
@@ -89,11 +89,11 @@ loop-again c =
     let a = s .args .t3 in
     let z = getD (a .costs) (l .j) (pos 0) in
     let f : SFits w64 z = record { sfits = c .before .before .before .before .before .put-line-arg2 .given } in
-    let t : Appended (l .out) (l .p) (lineText (l .j + 1) z (part a (l .j) (fits i))) (y .last .0) (y .result) = rw (toZ-ofZ f) at (y .ensures) in (
+    let t : Appended (l .out) (l .p) (lineText (l .j + 1) z (part a (l .j) (fits i))) (y .last .0) (y .result) = rw (toZ-ofZ f) at (y .ensures .0) in (
       omega arith,
       y .kept .0 ∙ l .inv .1,
-      omega (arith, next-end a (l .j) (fits i) (s .pre .1) (l .inv .3) t, l .inv .2, y .kept .0),
-      next-line a (l .j) (fits i) (s .pre .1) (l .inv .3) t (omega (arith, l .inv .2, l .inv .1)),
+      omega (arith, y .ensures .1, part-long a (l .j) (fits i), s .pre .1, l .inv .2),
+      next-line a (l .j) (fits i) (l .inv .3) t,
     )
 
 same-length : tie.Need-same-length Inv-loop μ-loop

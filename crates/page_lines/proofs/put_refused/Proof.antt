@@ -1,7 +1,6 @@
 -- The word, the number and the line feed.
 -- Assumes nothing.
-use native.Mathlib.Omega.{arith}
-use Rattle.page_lines.proofs.Title.{after-no, refusal}
+use Rattle.text.specs.Text.{joined}
 use borrow.Author.Needs.{needs}
 use Rattle.page_lines.proofs.put_refused.Statement.{statement}
 use Rattle.page_lines.proofs.put_refused.Tie as tie
@@ -16,11 +15,7 @@ put-number-requires : tie.Need-put-number-requires
 put-number-requires c κs = search needs
 
 put-byte-requires : tie.Need-put-byte-requires
-put-byte-requires c κs =
-    let b = c .before .before .before in
-    let a = b .before .before .before .before in
-    let s = a .before .before .before .before in
-    omega (arith, after-no (s .args .out .now) (s .args .no) (s .pre) (a .put-text .ensures) (a .put-text .kept .0) (b .put-number .ensures) (b .put-number .kept .0))
+put-byte-requires c κs = search needs
 
 same-length : tie.Need-same-length
 same-length c = search needs
@@ -29,10 +24,7 @@ returns : tie.Need-returns
 returns c =
     let y = c .before .before in
     let b = y .before .before .before .before in
-    let a = b .before .before .before .before in
-    let s = a .before .before .before .before in
-    refusal (s .args .out .now) (s .args .no) (s .pre) (a .put-text .ensures) (a .put-text .kept .0) (b .put-number .ensures) (b .put-number .kept .0)
-    (y .put-byte .ensures)
+    joined (joined (b .before .before .before .before .put-text .ensures) (b .put-number .ensures .0)) (y .put-byte .ensures)
 
 pub put-refused-spec : {M : Type 1} → statement M
 put-refused-spec =

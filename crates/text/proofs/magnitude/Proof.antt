@@ -1,30 +1,31 @@
--- `text::magnitude` meets its contract. Below 0, `-1 - x` is one less than the size, and both fit.
+-- Below 0, `-1 - x` is one less than the size, and both fit.
 -- Assumes nothing.
-use Prim.Native.Nat.{suc, _+_, _-_}
+use Prim.Native.Nat.{_+_}
 use mathlib.Core.Path.{_≡_}
 use mathlib.Core.Bool.{true, false}
 use native.Mathlib.Numerals.{add-one}
 use native.Mathlib.Omega.{arith}
-use borrow.Author.Tests.{ltb-true, le-ltb}
+use borrow.Author.Tests.{ltb-true}
 use lib.IntN.{ℤ, pos, negsuc, natAbs, _-ℤ_}
 use lib.Signed.{mag, ltZ}
 use mir.Syntax.{w64}
 use mir.Val.{SFits}
 use mir.Facts.{toZ-ofZ}
 use Rattle.book.proofs.Words.{abs-mag, not-neg}
+use Rattle.bytes_io.proofs.Numbers.{above}
 use Rattle.text.proofs.magnitude.Statement.{statement}
 use Rattle.text.proofs.magnitude.Tie as tie
 
-less-one : (x : ℤ) → ltZ x (pos 0) ≡ true → (negsuc 0 -ℤ x ≡ pos (mag x)) × (mag x + 1 ≡ natAbs x)
-less-one (pos n) e = absurd (omega (arith, ltb-true n 0 e))
-less-one (negsuc n) e = let h : suc n - 1 ≡ n = omega arith in (rw (le-ltb (suc n) 1 (omega arith), h), add-one n)
+one-more : (x : ℤ) → ltZ x (pos 0) ≡ true → mag x + 1 ≡ natAbs x
+one-more (pos n) e = absurd (omega (arith, ltb-true n 0 e))
+one-more (negsuc n) e = add-one n
 
 module _ (c : tie.Then1) where
   neg : ltZ (c .before .args .x) (pos 0) ≡ true
   neg = rw (toZ-ofZ (c .before .fits .x)) at (c .if1 .taken)
 
   flip : negsuc 0 -ℤ c .before .args .x ≡ pos (mag (c .before .args .x))
-  flip = less-one (c .before .args .x) neg .0
+  flip = above (c .before .args .x) neg
 
   fit : SFits w64 (pos (mag (c .before .args .x)))
   fit = record { sfits = c .before .fits .x .sfits }
@@ -41,7 +42,7 @@ add-result c = simp (toZ-ofZ (c .before .fits .x), flip c, toZ-ofZ (fit c)) (ome
 
 returns : tie.Need-returns
 returns c =
-    simp (toZ-ofZ (c .before .fits .x), flip c, toZ-ofZ (fit c)) (less-one (c .before .args .x) (neg c) .1)
+    simp (toZ-ofZ (c .before .fits .x), flip c, toZ-ofZ (fit c)) (one-more (c .before .args .x) (neg c))
 
 cast-result-2 : tie.Need-cast-result-2
 cast-result-2 c =

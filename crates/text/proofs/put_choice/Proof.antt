@@ -25,7 +25,7 @@ returns c =
     let n = c .before .before in
     let b = n .before .before .before .before .before in
     let s = b .before .before .before in
-    spoken (sym (marked (s .args .x) (n .before .before .if1 .taken))) (joined (omega (arith, s .pre)) (b .put-byte .ensures) (n .put-byte2 .ensures))
+    (spoken (sym (marked (s .args .x) (n .before .before .if1 .taken))) (joined (b .put-byte .ensures) (n .put-byte2 .ensures)), omega arith)
 
 wide-requires : tie.Need-wide-requires
 wide-requires c κs = search needs
@@ -41,8 +41,8 @@ returns-2 c =
     let n = c .before .before in
     let b = n .before .before .before .before .before .before in
     let s = b .before .before .before in
-    spoken (ap (λ (x : ℕ). (32 ∷ []) ++ decimal x) (n .before .wide .ensures) ∙ sym (numbered (s .args .x) (n .before .before .before .if1 .left)))
-    (joined (omega (arith, s .pre)) (b .put-byte .ensures) (n .put-number .ensures))
+    let t = ap (λ (x : ℕ). (32 ∷ []) ++ decimal x) (n .before .wide .ensures .0) ∙ sym (numbered (s .args .x) (n .before .before .before .if1 .left)) in
+    (spoken t (joined (b .put-byte .ensures) (n .put-number .ensures .0)), omega arith)
 
 pub put-choice-spec : {M : Type 1} → statement M
 put-choice-spec =

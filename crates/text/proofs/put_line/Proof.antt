@@ -3,8 +3,7 @@
 use native.Mathlib.Omega.{arith}
 use mir.Facts.{toZ-ofZ}
 use Rattle.model.specs.Page.{signedDecimal}
-use Rattle.text.specs.Text.{Appended}
-use Rattle.text.proofs.Line.{after-rank, after-space, after-cost, after-choices, whole}
+use Rattle.text.specs.Text.{Appended, joined}
 use borrow.Author.Needs.{needs}
 use Rattle.text.proofs.put_line.Statement.{statement}
 use Rattle.text.proofs.put_line.Tie as tie
@@ -13,55 +12,16 @@ put-number-requires : tie.Need-put-number-requires
 put-number-requires c κs = search needs
 
 put-byte-requires : tie.Need-put-byte-requires
-put-byte-requires c κs =
-    let n = c .before .before .before in
-    let s = n .before .before .before .before in
-    let a = s .args in
-    omega (arith, after-rank (a .out .now) (a .at) (a .rank) (a .cost) (a .plan .now) (s .pre) (n .put-number .ensures) (n .put-number .kept .0))
+put-byte-requires c κs = search needs
 
 put-signed-requires : tie.Need-put-signed-requires
-put-signed-requires c κs =
-    let b = c .before .before .before in
-    let n = b .before .before .before .before in
-    let s = n .before .before .before .before in
-    let a = s .args in
-    omega (
-      arith,
-      after-space (a .out .now) (a .at) (a .rank) (a .cost) (a .plan .now) (s .pre) (n .put-number .ensures) (n .put-number .kept .0)
-          (b .put-byte .ensures) (b .put-byte .kept .0),
-    )
-
-cost-text : (g : tie.After-put-signed) →
-    let s = g .before .before .before .before .before .before .before .before .before .before .before .before in
-    Appended (g .before .before .before .before .put-byte .last .0) (g .before .before .before .before .put-byte .result) (signedDecimal (s .args .cost)) (g .put-signed .last .0) (g .put-signed .result)
-cost-text g = let s = g .before .before .before .before .before .before .before .before .before .before .before .before in rw (toZ-ofZ (s .fits .cost)) at (g .put-signed .ensures)
+put-signed-requires c κs = search needs
 
 put-choices-requires : tie.Need-put-choices-requires
-put-choices-requires c κs =
-    let g = c .before .before .before in
-    let b = g .before .before .before .before in
-    let n = b .before .before .before .before in
-    let s = n .before .before .before .before in
-    let a = s .args in
-    omega (
-      arith,
-      after-cost (a .out .now) (a .at) (a .rank) (a .cost) (a .plan .now) (s .pre) (n .put-number .ensures) (n .put-number .kept .0)
-          (b .put-byte .ensures) (b .put-byte .kept .0) (cost-text g) (g .put-signed .kept .0),
-    )
+put-choices-requires c κs = search needs
 
 put-byte-requires-2 : tie.Need-put-byte-requires-2
-put-byte-requires-2 c κs =
-    let h = c .before .before .before in
-    let g = h .before .before .before .before in
-    let b = g .before .before .before .before in
-    let n = b .before .before .before .before in
-    let s = n .before .before .before .before in
-    let a = s .args in
-    omega (
-      arith,
-      after-choices (a .out .now) (a .at) (a .rank) (a .cost) (a .plan .now) (s .pre) (n .put-number .ensures) (n .put-number .kept .0)
-          (b .put-byte .ensures) (b .put-byte .kept .0) (cost-text g) (g .put-signed .kept .0) (h .put-choices .ensures) (h .put-choices .kept .0),
-    )
+put-byte-requires-2 c κs = search needs
 
 same-length : tie.Need-same-length
 same-length c = search needs
@@ -74,10 +34,9 @@ returns c =
     let b = g .before .before .before .before in
     let n = b .before .before .before .before in
     let s = n .before .before .before .before in
-    let a = s .args in
-    whole (a .out .now) (a .at) (a .rank) (a .cost) (a .plan .now) (s .pre) (n .put-number .ensures) (n .put-number .kept .0)
-    (b .put-byte .ensures) (b .put-byte .kept .0) (cost-text g) (g .put-signed .kept .0) (h .put-choices .ensures) (h .put-choices .kept .0)
-    (y .put-byte2 .ensures)
+    let t : Appended (b .put-byte .last .0) (b .put-byte .result) (signedDecimal (s .args .cost)) (g .put-signed .last .0) (g .put-signed .result)
+    = rw (toZ-ofZ (s .fits .cost)) at (g .put-signed .ensures .0) in
+    (joined (joined (joined (n .put-number .ensures .0) (joined (b .put-byte .ensures) t)) (h .put-choices .ensures .0)) (y .put-byte2 .ensures), omega arith)
 
 pub put-line-spec : {M : Type 1} → statement M
 put-line-spec =

@@ -28,8 +28,11 @@ same-length c = search needs
 
 returns : tie.Need-returns
 returns c =
-    let d = c .before .before .before .before .before in
-    number (d .before .before .before .args .x) (d .decimal .result) _ (short d) (d .decimal .ensures .1 .0) (d .decimal .ensures .1 .1) (c .before .before .put-text .ensures)
+    let t = c .before .before .put-text .ensures in
+    let d = c .before .before .before .before .before in (
+      number (d .before .before .before .args .x) (d .decimal .result) _ (short d) (d .decimal .ensures .1 .0) (d .decimal .ensures .1 .1) t,
+      omega (arith, t .end, short d),
+    )
 
 pub put-number-spec : {M : Type 1} → statement M
 put-number-spec =

@@ -34,8 +34,7 @@ returns c =
     let s = b .before .before .before .before in
     let below : ltZ (s .args .x) (pos 0) ≡ true = rw (toZ-ofZ (s .fits .x)) at (b .before .before .if1 .taken) in
     let m : n .before .magnitude .result ≡ natAbs (s .args .x) = rw (toZ-ofZ (s .fits .x)) at (n .before .magnitude .ensures) in
-    spoken (ap (λ (x : ℕ). (45 ∷ []) ++ decimal x) m ∙ sym (below-zero (s .args .x) below))
-    (joined (omega (arith, s .pre)) (b .put-byte .ensures) (n .put-number .ensures))
+    (spoken (ap (λ (x : ℕ). (45 ∷ []) ++ decimal x) m ∙ sym (below-zero (s .args .x) below)) (joined (b .put-byte .ensures) (n .put-number .ensures .0)), omega arith)
 
 magnitude-requires-2 : tie.Need-magnitude-requires-2
 magnitude-requires-2 c κs = search needs
@@ -52,7 +51,7 @@ returns-2 c =
     let s = n .before .before .before .before .before in
     let above : ltZ (s .args .x) (pos 0) ≡ false = rw (toZ-ofZ (s .fits .x)) at (n .before .before .before .if1 .left) in
     let m : n .before .magnitude2 .result ≡ natAbs (s .args .x) = rw (toZ-ofZ (s .fits .x)) at (n .before .magnitude2 .ensures) in
-    spoken (ap decimal m ∙ sym (not-below (s .args .x) above)) (n .put-number2 .ensures)
+    (spoken (ap decimal m ∙ sym (not-below (s .args .x) above)) (n .put-number2 .ensures .0), omega arith)
 
 pub put-signed-spec : {M : Type 1} → statement M
 put-signed-spec =

@@ -17,7 +17,7 @@ same-length c = search needs
 returns : tie.Need-returns
 returns c =
     let s = c .before .before .before .before .before .before in
-    copied (s .args .out .now) (s .args .at) (s .args .text .now) _ (c .before .before .write-bytes .ensures)
+    copied (s .args .out .now) (s .args .at) (s .args .text .now) _ (s .pre) (c .before .before .write-bytes .ensures)
 
 pub put-text-spec : {M : Type 1} → statement M
 put-text-spec = tie.close (tie.spec write-bytes-requires add-result same-length returns)
