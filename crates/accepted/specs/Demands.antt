@@ -1,5 +1,5 @@
--- What document 01 promises of an accepted book, in its reader's words: its plans, their cost, their order and the list. Each law quotes the sentence
--- that it renders.
+-- What document 01, with the requests of document 02, promises of an accepted book, in its reader's words: its plans, their cost, their order and the
+-- list. Each law quotes the sentence that it renders.
 -- Assumes nothing.
 use mathlib.Core.Path.{_≡_, refl, sym, ap, _∙_, subst}
 use mathlib.Core.Bool.{Bool, true, false}

@@ -1,4 +1,4 @@
--- Books within the limit of request 2.3, question 9 with other limits of r, and the rules before that request: today's, with r at most 16.
+-- Books within the limit of request 2.3, question 9 with other limits of r, and the rules before that request: those of crate model, with r at most 16.
 -- No contract cites these definitions.
 -- Assumes nothing.
 use Prim.Native.Nat.{ℕ, _≤_, _<_}

@@ -1,5 +1,5 @@
--- "That figure becomes the limit": a book is accepted exactly if it was accepted before and no action has more transitions than the limit; one with more
--- gets 9. "No filed record is affected": its number, its list and its bytes are the same.
+-- "That figure becomes the limit": a book is accepted exactly if the rules before the request accept it and no action has more transitions than the
+-- limit; one with more gets 9. "No filed record is affected": its number, its list and its bytes are the same.
 -- Assumes nothing.
 use mathlib.Core.Path.{_≡_, refl, sym, ap, _∙_}
 use mathlib.Core.Bool.{Bool, true, false, _&&_, cond}
@@ -54,7 +54,7 @@ module _ (ws : Words) where
   pub within : bookNumber ws ≡ 0 → WithinLimit ws
   within ok = accepted ws ok .branches-most
 
-  -- words in which no r is above the limit get the same number as before
+  -- words in which no r is above the limit get the same number by both
   pub number-same : WithinLimit ws → formerNumber ws ≡ bookNumber ws
   unfolding formerNumber bookNumber linesAllowed branchesAllowed linesWithin branchesWithin branches
   number-same few =
@@ -67,11 +67,11 @@ module _ (ws : Words) where
           lines-agree ws fewestBranches formerMost fewestBranches mostBranches
           (λ p c l k h. sym (inside-wider fewestBranches mostBranches formerMost (left ws (actionLine ws p c)) (few p c l k h) (omega arith)))
 
-  -- a book that is accepted was accepted before
+  -- a book that is accepted is so by the rules before the request
   pub accepted-before : bookNumber ws ≡ 0 → formerNumber ws ≡ 0
   accepted-before ok = number-same (within ok) ∙ ok
 
-  -- the limit is all that changed
+  -- the limit is all that they lack
   pub accepts-exactly : (bookNumber ws ≡ 0) ↔ ((formerNumber ws ≡ 0) × WithinLimit ws)
   accepts-exactly = (λ ok. (accepted-before ok, within ok), λ h. sym (number-same (h .1)) ∙ h .0)
 
@@ -105,6 +105,6 @@ module _ (bs : List ℕ) where
   pub accept-same : WithinLimit (carriedBook bs) → acceptNumberBy formerNumber bs ≡ acceptNumber bs
   accept-same few = same-accept formerNumber bs (number-same (carriedBook bs) few)
 
-  -- one that is accepted was accepted before
+  -- one that is accepted is so by the rules before the request
   pub accept-before : acceptNumber bs ≡ 0 → acceptNumberBy formerNumber bs ≡ 0
   accept-before ok = accept-same (within (carriedBook bs) (accept-says bs ok .asked .ok)) ∙ ok

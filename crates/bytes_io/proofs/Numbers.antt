@@ -4,7 +4,8 @@ use mathlib.Core.Path.{_≡_, refl, sym, ap, _∙_}
 use mathlib.Core.Bool.{Bool, true, false, cond}
 use mathlib.Core.List.{List, [], _∷_, _++_, append-assoc}
 use Prim.Native.Nat.{ℕ, zero, suc, _+_, _*_, _-_, _^_, _/_, _%_, _≤_, _<_}
-use native.Mathlib.Nat.{pow-succ', pow-suc, one-le-pow, mul-assoc, mul-suc, div-lt-iff-lt-mul, mod-add-div, suc-inj, zero-add}
+use native.Mathlib.Nat.{pow-succ', pow-suc, one-le-pow, mul-assoc, mul-zero, mul-suc, mul-le-mul-left, div-lt-iff-lt-mul, mod-add-div, suc-inj, zero-add}
+use native.Mathlib.Numerals.{add-one}
 use native.Mathlib.Omega.{arith}
 use borrow.Author.Tests.{lt-ltb, le-ltb, ltb-true}
 use lib.Pow.{pow-add}
@@ -16,8 +17,8 @@ use lib.Seq.{take-at, drop-at, drop-drop}
 use Rattle.model.specs.Lists.{forEach}
 use Rattle.model.specs.Bytes.{bytes, signedBytes, fromBytes, signed, wordsOf}
 use Rattle.laws.specs.Members.{Every}
-use Rattle.bytes_io.specs.Slices.{complement, signedFrom}
-use Rattle.bytes_io.proofs.Parts.{part-step}
+use Rattle.bytes_io.specs.Slices.{written, complement, signedFrom}
+use Rattle.bytes_io.proofs.Parts.{part-step, Filling, fill-start, fill-part, fill-end, partsFrom, parts-start, parts-step, parts-end}
 
 -- ---- lengths
 
@@ -42,9 +43,9 @@ read-bytes (suc n) x h =
     let q : x / 256 < 256 ^ n = div-lt-iff-lt-mul {k = 256} {x = x} {y = 256 ^ n} (omega arith) .1 (rw pow-suc at h) in
     rw (read-bytes n (x / 256) q) (mod-add-div x 256)
 
--- one byte from the front
-pub bytes-step : (i n y : ℕ) → i < n → bytes (n - i) y ≡ y % 256 ∷ bytes (n - (i + 1)) (y / 256)
-bytes-step i n y h = let k : n - i ≡ suc (n - (i + 1)) = omega arith in rw k
+-- eight bytes are the four low ones, then the four high ones
+pub halves : (u : ℕ) → bytes 4 u ++ bytes 4 (u / 4294967296) ≡ bytes 8 u
+halves u = let e : u / 4294967296 ≡ u / 256 / 256 / 256 / 256 = omega arith in ap (λ (x : ℕ). bytes 4 u ++ bytes 4 x) e
 
 -- a list of bytes
 abbrev pub Bytes : List ℕ → Type 0
@@ -166,3 +167,27 @@ read-words (suc n) (w ∷ ws) rest e h =
       read-signed w (h .0),
       read-words n ws rest (suc-inj e) (h .1),
     )
+
+-- ---- signed numbers of w bytes each, written one after another
+
+module _ (w : ℕ) (xs : List ℤ) (k : ℕ) (o₀ : List ℕ) (at : ℕ) where
+  abbrev all : List ℕ
+  all = forEach (signedBytes w) (take k xs)
+
+  -- the first i of the k numbers are written
+  abbrev pub Writing : List ℕ → ℕ → Type 0
+  Writing o i = Filling o₀ at (w * k) all o (w * i) (partsFrom (signedBytes w) xs k i)
+
+  pub writing-start : Writing o₀ 0
+  writing-start = rw (mul-zero w, ← parts-start (signedBytes w) xs k) (fill-start o₀ at (w * k) all)
+
+  module _ (room : at + w * k ≤ length o₀) {o : List ℕ} (i : ℕ) (f : Writing o i) where
+    pub writing-next : {o′ : List ℕ} → i < k → k ≤ length xs → o′ ≡ written o (at + w * i) w (signedBytes w (getD xs i (pos 0))) → Writing o′ (i + 1)
+    writing-next l e h =
+        let x = getD xs i (pos 0) in
+        let next : w * (i + 1) ≡ w * i + w = rw add-one (mul-suc w i) in
+        fill-part o₀ at (w * k) all room f w (w * (i + 1)) (signedBytes w x) (partsFrom (signedBytes w) xs k (i + 1)) (length-signed w x) refl next
+        (mul-le-mul-left w (omega arith)) (parts-step (signedBytes w) xs k (pos 0) i l e) h
+
+    pub writing-end : k ≤ i → o ≡ written o₀ at (w * k) all
+    writing-end l = fill-end o₀ at (w * k) all room f (mul-le-mul-left w l) (parts-end (signedBytes w) xs k i l)

@@ -1,7 +1,6 @@
 // Numbers in byte slices, low byte first: read, written and compared.
 ghost use mathlib.Core.Path.{_≡_};
-ghost use Prim.Native.Nat.{_+_, _*_, _^_, _<_, _≤_};
-ghost use lib.Signed.{mag};
+ghost use Prim.Native.Nat.{_+_, _*_, _<_, _≤_};
 ghost use lib.ListN.{length, take, drop};
 ghost use Rattle.model.specs.Lists.{forEach, same};
 ghost use Rattle.model.specs.Bytes.{bytes, signedBytes, fromBytes, signed, wordsOf};
@@ -63,18 +62,18 @@ pub fn read_words(r: &[u8], at: usize, n: usize, out: &mut [i32])
 
 // ---- writing, from index `at` on
 
-// The n low bytes of x.
-fn write_low(out: &mut [u8], at: usize, n: usize, x: u64)
-    requires { ⌜ at + n ≤ length (now out) ⌝ }
-    ensures { λ _. ⌜ now (out .exit) ≡ written (now (out .entry)) at n (bytes n x) ⌝ }
+// The four low bytes of x.
+fn write_low(out: &mut [u8], at: usize, x: u64)
+    requires { ⌜ at + 4 ≤ length (now out) ⌝ }
+    ensures { λ _. ⌜ now (out .exit) ≡ written (now (out .entry)) at 4 (bytes 4 x) ⌝ }
 {
-    let mut y = x;
-    let mut i: usize = 0;
-    while i < n {
-        out[at + i] = (y % 256) as u8;
-        y = y / 256;
-        i = i + 1;
-    }
+    let y = x / 256;
+    let z = y / 256;
+    let w = z / 256;
+    out[at] = (x % 256) as u8;
+    out[at + 1] = (y % 256) as u8;
+    out[at + 2] = (z % 256) as u8;
+    out[at + 3] = (w % 256) as u8;
 }
 
 // Two's complement out.
@@ -92,15 +91,17 @@ pub fn write4(out: &mut [u8], at: usize, x: usize)
     requires { ⌜ (at + 4 ≤ length (now out)) × (x < 4294967296) ⌝ }
     ensures { λ _. ⌜ now (out .exit) ≡ written (now (out .entry)) at 4 (bytes 4 x) ⌝ }
 {
-    write_low(out, at, 4, x as u64);
+    write_low(out, at, x as u64);
 }
 
-// A signed number of n bytes.
-fn write_signed(out: &mut [u8], at: usize, n: usize, x: i64)
-    requires { ⌜ (at + n ≤ length (now out)) × (n ≤ 8) × (mag x < 256 ^ n) ⌝ }
-    ensures { λ _. ⌜ now (out .exit) ≡ written (now (out .entry)) at n (signedBytes n x) ⌝ }
+// A signed number of eight bytes.
+fn write_cost(out: &mut [u8], at: usize, x: i64)
+    requires { ⌜ at + 8 ≤ length (now out) ⌝ }
+    ensures { λ _. ⌜ now (out .exit) ≡ written (now (out .entry)) at 8 (signedBytes 8 x) ⌝ }
 {
-    write_low(out, at, n, to_unsigned(x));
+    let u = to_unsigned(x);
+    write_low(out, at, u);
+    write_low(out, at + 4, u / 4294967296);
 }
 
 // Every word of ws.
@@ -111,8 +112,7 @@ pub fn write_words(out: &mut [u8], at: usize, ws: &[i32])
     let n = ws.len();
     let mut i: usize = 0;
     while i < n {
-        let x = ws[i];
-        write_signed(out, at + 4 * i, 4, x as i64);
+        write_low(out, at + 4 * i, to_unsigned(ws[i] as i64));
         i = i + 1;
     }
 }
@@ -124,8 +124,7 @@ pub fn write_costs(out: &mut [u8], at: usize, costs: &[i64], k: usize)
 {
     let mut i: usize = 0;
     while i < k {
-        let x = costs[i];
-        write_signed(out, at + 8 * i, 8, x);
+        write_cost(out, at + 8 * i, costs[i]);
         i = i + 1;
     }
 }

@@ -1,4 +1,4 @@
--- Books with one closing action a state, and the rules before request 2.9: today's, with question 8 as document 01 asks it.
+-- Books with one closing action a state, and the rules before request 2.9: those of crate model, with question 8 as document 01 asks it.
 -- No contract cites these definitions.
 -- Assumes nothing.
 use Prim.Native.Nat.{ℕ, _+_, _<_}

@@ -1,5 +1,5 @@
--- "Check 8 loses its second half": a book was accepted before exactly if it is accepted and has one closing action a state; one that is accepted and has
--- more got 8. A book with one gives the same numbers, lists and records, and no record that was accepted is refused.
+-- "Check 8 loses its second half": the rules before the request accept a book exactly if it is accepted and has one closing action a state; an accepted
+-- book with more gets 8 by them. A book with one gives the same numbers, lists and records, and no record that they accept is refused.
 -- Assumes nothing.
 use mathlib.Core.Path.{_≡_, refl, sym, _∙_}
 use mathlib.Core.Bool.{Bool, true, false, cond}
@@ -46,7 +46,7 @@ module _ (ws : Words) where
       (λ passed. answers-same ws formerQuestion actionQuestions
       (refl, counts-same one, (refl, refl, (refl, refl, (refl, refl, (refl, refl, (refl, refl, tt)))))))
 
-  -- "At stage H each post has one choice": so it was in a book that was accepted
+  -- "At stage H each post has one choice": so it is in a book that they accept
   former-one : formerNumber ws ≡ 0 → OneClosing ws
   unfolding formerNumber
   former-one before =
@@ -54,14 +54,14 @@ module _ (ws : Words) where
       (passed ws (map formerQuestion actionQuestions) (omega arith)
       (both-zero ws sizeQuestions (omega arith) (map formerQuestion actionQuestions) before .1) .0)
 
-  -- the second half of question 8 is all that changed
+  -- the second half of question 8 is all that they add
   pub accepts-exactly : (formerNumber ws ≡ 0) ↔ ((bookNumber ws ≡ 0) × OneClosing ws)
   accepts-exactly = (
     λ before. let one = former-one before in (sym (number-same one) ∙ before, one),
     λ h. number-same (h .1) ∙ h .0,
   )
 
-  -- an accepted book with several depots at a state got 8
+  -- an accepted book with several depots at a state gets 8 by them
   pub several-refused : bookNumber ws ≡ 0 → (p : ℕ) → p < stateCount ws → stage ws p ≡ horizon ws → 1 < actionCount ws p → formerNumber ws ≡ 8
   unfolding formerNumber bookNumber
   several-refused ok p l last more =
@@ -76,7 +76,7 @@ module _ (ws : Words) where
 
 -- ---- the calls
 
--- "Books with one closing choice a post give the same records": and the same list, and the same answers of checking, valuing and the least cost
+-- the same list and record bytes, and the same answers of checking, valuing and the least cost
 pub calls-same : (ws : Words) → OneClosing ws → SameCalls formerNumber ws
 calls-same ws one = same-calls formerNumber ws (number-same ws one)
 
@@ -84,7 +84,7 @@ module _ (bs : List ℕ) where
   pub accept-same : OneClosing (carriedBook bs) → acceptNumberBy formerNumber bs ≡ acceptNumber bs
   accept-same one = same-accept formerNumber bs (number-same (carriedBook bs) one)
 
-  -- a record that was accepted is accepted
+  -- a record that they accept is accepted
   pub still-accepted : acceptNumberBy formerNumber bs ≡ 0 → acceptNumber bs ≡ 0
   unfolding acceptNumberBy askedBy
   still-accepted before =

@@ -41,7 +41,7 @@ valueNumber ws bs = andThen (bookNumber ws) (firstNo (policyQuestions ws) bs)
 unfoldable pub valueCost : Words → Policy → ℤ
 valueCost ws bs = ifAccepted (valueNumber ws bs) (policyCost ws bs) (pos 0)
 
--- ---- least: "The least cost asks 1 to 13 alone." Request 2.7: then 28, "for the least cost of the book, after 13"
+-- ---- least: "The least cost asks 1 to 13"; request 2.7: 28, "for the least cost of the book, after 13"
 
 unfoldable pub leastNumber : Words → ℕ
 leastNumber ws = andThen (bookNumber ws) (firstNo planQuestions ws)
@@ -49,7 +49,7 @@ leastNumber ws = andThen (bookNumber ws) (firstNo planQuestions ws)
 unfoldable pub leastCost : Words → ℤ
 leastCost ws = ifAccepted (leastNumber ws) (firstCost (rankingCosts ws 1)) (pos 0)
 
--- ---- rank: "Does the lent slice of 64-bit costs have K places? 15. Does the plan slice have K × S bytes? 16."
+-- ---- rank: 1 to 14 and 28 (`askedNumber`), then: "Does the lent slice of 64-bit costs have K places? 15. Does the plan slice have K × S bytes? 16."
 
 -- K and the lengths of the two lent slices
 pub record Room : Type 0 where
@@ -80,7 +80,7 @@ unfoldable pub rankPlans : Words → ℕ → List ℤ → List ℕ → List ℕ
 rankPlans ws k costs plans =
     ifAccepted (rankNumber ws (roomOf k costs plans)) (over (forEach (λ (p : Policy). p) (ranking ws k)) plans) plans
 
--- ---- write: "Writing a record asks 1 to 14, then: does the lent slice hold the record? 18."
+-- ---- write: "Writing a record asks 1 to 14", 28, "then: does the lent slice hold the record? 18."
 
 abbrev pub writeQuestions : Words → ℕ → List (Question ℕ)
 writeQuestions ws k = record { number = 18; asks = λ room. leb (length (recordBytes ws k)) room } ∷ []

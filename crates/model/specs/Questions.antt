@@ -1,5 +1,5 @@
 -- The questions 1 to 13 of a book. "Each is put to the whole input before the next. The first "no" gives its number; 0 means accepted."
--- Request 2.1 changes 9 and 12, request 2.3 changes 9, request 2.7 changes 10 and 13, request 2.9 changes 8.
+-- 8 is as request 2.9 has it, 9 as 2.1 and 2.3 have it, 10 and 13 as 2.7 has them, 12 as 2.1 has it.
 -- Assumes nothing.
 use Prim.Native.Nat.{ℕ, zero, suc, _+_, _*_, _^_}
 use mathlib.Core.Bool.{Bool, true, false, _&&_, _||_, cond}

@@ -198,7 +198,7 @@ module _ (ws : Words) (ok : bookNumber ws ≡ 0) (full : NoStops ws) where
     unfolding recordBytes listBytes baseRecord
     record-same = rw (list-same, costs-same)
 
--- a record that was written by the rules of document 01, for a book with a policy that is within the limit, is accepted
+-- a record that is written by the rules of document 01, for a book with a policy that is within the limit, is accepted
 pub still-accepted : (ws : Words) → baseNumber ws ≡ 0 → WithinLimit ws → Every (λ z. mag z < 2 ^ 31) ws → (k : ℕ) → 1 ≤ k → k ≤ 64
     → hasPolicy ws ≡ true → acceptNumber (baseRecord ws k) ≡ 0
 still-accepted ws base few words k low high has =

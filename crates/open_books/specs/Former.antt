@@ -1,4 +1,4 @@
--- The rules before request 2.7: a cost marks nothing, so a policy may take every action, and 28 is not asked. All else is as today.
+-- The rules before request 2.7: a cost marks nothing, so a policy may take every action, and 28 is not asked. All else is as in crate model.
 -- No contract cites these definitions.
 -- Assumes nothing.
 use Prim.Native.Nat.{ℕ, _+_, _*_, _^_}

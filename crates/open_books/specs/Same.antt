@@ -1,4 +1,4 @@
--- A book without the mark gives the same numbers, list and record as before request 2.7; what was accepted before is accepted, with the same answers.
+-- A book without the mark gives the same numbers, list and record by the rules before request 2.7; what they accept is accepted, with the same answers.
 -- Assumes nothing.
 use mathlib.Core.Path.{_≡_, refl, sym, ap, ap₂, _∙_, subst}
 use mathlib.Core.Bool.{Bool, true, false, _&&_, _||_, cond}
@@ -166,14 +166,14 @@ module _ (bs : List ℕ) where
           ≡ (eqb (carriedCount bs) (length (ranking ws k)) && same (drop (listStart bs) bs) (listBytes ws k))
       ranked = rw (list-same ws opened k, list-bytes-same ws opened k)
 
--- ---- what was accepted before
+-- ---- what the rules before the request accept
 
--- a cost within the former limits is not the mark
+-- a cost within their limits is not the mark
 within-open : (z : ℤ) → inside (negsuc 99999) (pos 100000) z ≡ true → closed z ≡ false
 within-open (pos n) e = ne-eqb n closedMark (λ h. omega (arith, leb-true n 100000 e))
 within-open (negsuc n) e = refl
 
--- "costs from -100,000 to 100,000": a book that was accepted has no mark
+-- "costs from -100,000 to 100,000": a book that they accept has no mark
 pub former-open : (ws : Words) → formerNumber ws ≡ 0 → AllOpen ws
 unfolding formerNumber formerCost
 former-open ws ok p c l k =
@@ -184,7 +184,7 @@ former-open ws ok p c l k =
         passed ws (map formerQuestion actionQuestions) (omega arith)
         (both-zero ws sizeQuestions (omega arith) (map formerQuestion actionQuestions) ok .1)
 
--- so the books that were accepted are the accepted ones without the mark
+-- so the books that they accept are the accepted ones without the mark
 pub accepts-exactly : (ws : Words) → (formerNumber ws ≡ 0) ↔ ((bookNumber ws ≡ 0) × AllOpen ws)
 accepts-exactly ws = (
   λ ok. let opened = former-open ws ok in (sym (number-same ws opened) ∙ ok, opened),
@@ -217,7 +217,7 @@ unchanged ws opened = record {
   bytes = record-same ws opened;
 }
 
--- whatever was accepted before is accepted, with a policy and the same answers
+-- each is accepted, with a policy and the same answers
 pub still-accepted : (ws : Words) → formerNumber ws ≡ 0 → (bookNumber ws ≡ 0) × (hasPolicy ws ≡ true) × Unchanged ws
 still-accepted ws before =
     let h = accepts-exactly ws .0 before in

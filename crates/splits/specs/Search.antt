@@ -3,7 +3,7 @@
 -- of it. No more than K wait. The elements listed are the first K of the sorted ones.
 -- Assumes nothing.
 use mathlib.Core.Path.{_≡_, refl, sym, ap, _∙_, subst}
-use mathlib.Core.Bool.{Bool, true, false}
+use mathlib.Core.Bool.{Bool, false}
 use mathlib.Core.Logic.{_⊎_, inl, inr}
 use mathlib.Core.List.{List, [], _∷_}
 use mathlib.Core.Option.{some}
@@ -15,7 +15,7 @@ use lib.Dec.{T}
 use lib.ListN.{length, getElem?, take, drop, drop-of-length-le}
 use Rattle.model.specs.Lists.{count, insert, sorted}
 use Rattle.laws.specs.Members.{true-T, In, Every, in-every, every-imp, every-both, Apart}
-use Rattle.laws.specs.Sorting.{Strict, Total, Rises, at-in, rank, unrank, sorted-length, count-sorted, in-sorted, sorted-in, rises-sorted}
+use Rattle.laws.specs.Sorting.{Strict, Total, Rises, by-test, at-in, rank, unrank, sorted-length, count-sorted, in-sorted, sorted-in, rises-sorted}
 use Rattle.laws.specs.Entries.{some-at, count-most, by-rank}
 
 -- ---- the search
@@ -60,22 +60,13 @@ module _ {C : Type 0} where
   pairs-take R (suc K) (w ∷ ws) h = (every-take (R w) K ws (h .0), pairs-take R K ws (h .1))
 
   module _ (lt : C → C → Bool) where
-    -- what holds of both results of one comparison holds after an insertion
-    by-test : (P : List C → Type 0) (c d : C) (ds : List C) → (lt c d ≡ true → P (c ∷ (d ∷ ds))) → (lt c d ≡ false → P (d ∷ insert lt c ds))
-        → P (insert lt c (d ∷ ds))
-    by-test P c d ds yes-case no-case = go (lt c d) refl
-      where
-        go : (t : Bool) → lt c d ≡ t → P (elim t [ true ↦ c ∷ (d ∷ ds) | false ↦ d ∷ insert lt c ds ])
-        go true e = yes-case e
-        go false e = no-case e
-
     every-insert : (P : C → Type 0) (c : C) (ws : List C) → P c → Every P ws → Every P (insert lt c ws)
     every-insert P c [] h k = (h, tt)
-    every-insert P c (d ∷ ds) h k = by-test (Every P) c d ds (λ e. (h, k)) (λ e. (k .0, every-insert P c ds h (k .1)))
+    every-insert P c (d ∷ ds) h k = by-test lt (Every P) c d ds (λ e. (h, k)) (λ e. (k .0, every-insert P c ds h (k .1)))
 
     some-insert : (P : C → Type 0) (c : C) (ws : List C) → P c ⊎ Some P ws → Some P (insert lt c ws)
     some-insert P c [] h = h
-    some-insert P c (d ∷ ds) h = by-test (Some P) c d ds (λ e. h) (λ e. go h (some-insert P c ds))
+    some-insert P c (d ∷ ds) h = by-test lt (Some P) c d ds (λ e. h) (λ e. go h (some-insert P c ds))
       where
         go : P c ⊎ Some P (d ∷ ds) → (P c ⊎ Some P ds → Some P (insert lt c ds)) → P d ⊎ Some P (insert lt c ds)
         go (inl x) ih = inr (ih (inl x))
@@ -87,14 +78,14 @@ module _ {C : Type 0} where
         → Pairs R (insert lt c ws)
     pairs-insert R flip c [] h k = (tt, tt)
     pairs-insert R flip c (d ∷ ds) h k =
-        by-test (Pairs R) c d ds (λ e. (h, k))
+        by-test lt (Pairs R) c d ds (λ e. (h, k))
         (λ e. (every-insert (R d) c ds (flip c d (h .0)) (k .0), pairs-insert R flip c ds (h .1) (k .1)))
 
     order-insert : ((x y z : C) → T (lt x y) → T (lt y z) → T (lt x z)) → (c : C) (ws : List C)
         → Every (λ d. lt c d ≡ false → T (lt d c)) ws → Pairs (λ d e. T (lt d e)) ws → Pairs (λ d e. T (lt d e)) (insert lt c ws)
     order-insert trans c [] h k = (tt, tt)
     order-insert trans c (d ∷ ds) h k =
-        by-test (Pairs (λ x y. T (lt x y))) c d ds (λ e. (front (true-T e), k))
+        by-test lt (Pairs (λ x y. T (lt x y))) c d ds (λ e. (front (true-T e), k))
         (λ e. (every-insert (λ x. T (lt d x)) c ds (h .0 e) (k .0), order-insert trans c ds (h .1) (k .1)))
       where
         front : T (lt c d) → Every (λ x. T (lt c x)) (d ∷ ds)

@@ -42,7 +42,7 @@ use denote.Triple.Statement.{Contract, Triple}
 use denote.Triple.Call.{calls-at}
 use denote.Triple.Entry.{onEntry}
 use denote.Triple.Spec.{Meets, tripleOf}
-use denote.Triple.Table.{entered, cited}
+use Rattle.accept.proofs.Relayed.{relayed}
 use denote.Triple.Walked.{says, Stays, stay-none-slice, walkOf, goes-none-slice, ends-at, walked, walk-meets}
 use denote.Exit.{yes}
 use denote.Triple.Clauses.{ensured, lasts}
@@ -211,8 +211,6 @@ module _ (m n : ℕ) {o p : ℕ} (at-m : fieldOf S′.mir m ≡ there (tyInt w64
 pub open-spec : {M : Type 1} → stated.statement M
 unfolding code.routine tablesOf
 open-spec 𝓤 H 𝓜 𝓖 𝓡 =
-    entered 𝓤 H (tripleOf 𝓤 H (𝓖 .A) opened.signature (opened.spec 𝓤 H (𝓖 .A) (𝓜 .mem) (𝓡 .run)))
-    (tables 𝓤 H 𝓜 𝓡 code.env .C) (tables 𝓤 H 𝓜 𝓡 code.env .Λ) #browse·open code.function (code.unfolded 𝓤 H 𝓜 𝓡)
-    (open-meets _ _ refl refl (λ a. refl) (λ a. refl) 𝓤 H (𝓖 .A) (givenOf 𝓤 H 𝓜 𝓖) (𝓜 .mem) (𝓡 .run) (tablesOf 𝓤 H 𝓜 (tables 𝓤 H 𝓜 𝓡 code.env))
-    (cited 𝓤 H (Accept 𝓤 H (𝓖 .A) (𝓜 .mem) (𝓡 .run)) 𝓜 𝓡 code.env #accept·accept accept-def.routine code.calls-accept·accept
-    (accept-thm.met 𝓤 H 𝓜 𝓖 𝓡)))
+    relayed 𝓤 H 𝓜 𝓡 code.env _ _ #browse·open code.function (code.unfolded 𝓤 H 𝓜 𝓡) #accept·accept accept-def.routine code.calls-accept·accept
+    (accept-thm.met 𝓤 H 𝓜 𝓖 𝓡)
+    (open-meets _ _ refl refl (λ a. refl) (λ a. refl) 𝓤 H (𝓖 .A) (givenOf 𝓤 H 𝓜 𝓖) (𝓜 .mem) (𝓡 .run) (tablesOf 𝓤 H 𝓜 (tables 𝓤 H 𝓜 𝓡 code.env)))

@@ -42,7 +42,7 @@ use denote.Triple.Statement.{Contract, Triple}
 use denote.Triple.Call.{calls-at}
 use denote.Triple.Entry.{Vals, onEntry}
 use denote.Triple.Spec.{Meets, tripleOf}
-use denote.Triple.Table.{entered, cited}
+use Rattle.accept.proofs.Relayed.{relayed}
 use denote.Triple.Walked.{says, Stays, stay-none, walkOf, goes-none, ends-at, walked, walk-meets}
 use denote.Exit.{yes}
 use denote.Triple.Clauses.{ensured, lasts}
@@ -217,8 +217,6 @@ module _ (m n : ℕ) {o p : ℕ} (at-m : fieldOf (T′.mir (named 0)) m ≡ ther
 pub plan-spec : {M : Type 1} → stated.statement M
 unfolding code.routine tablesOf
 plan-spec 𝓤 H 𝓜 𝓖 𝓡 =
-    entered 𝓤 H (tripleOf 𝓤 H (𝓖 .A) plan.signature (plan.spec 𝓤 H (𝓖 .A) (𝓜 .mem) (𝓡 .run)))
-    (tables 𝓤 H 𝓜 𝓡 code.env .C) (tables 𝓤 H 𝓜 𝓡 code.env .Λ) #browse·plan code.function (code.unfolded 𝓤 H 𝓜 𝓡)
-    (plan-meets _ _ refl refl (λ b. refl) (λ b. refl) 𝓤 H (𝓖 .A) (givenOf 𝓤 H 𝓜 𝓖) (𝓜 .mem) (𝓡 .run) (tablesOf 𝓤 H 𝓜 (tables 𝓤 H 𝓜 𝓡 code.env))
-    (cited 𝓤 H (Part 𝓤 H (𝓖 .A) (𝓜 .mem) (𝓡 .run)) 𝓜 𝓡 code.env #place·part part-def.routine code.calls-place·part
-    (part-thm.met 𝓤 H 𝓜 𝓖 𝓡)))
+    relayed 𝓤 H 𝓜 𝓡 code.env _ _ #browse·plan code.function (code.unfolded 𝓤 H 𝓜 𝓡) #place·part part-def.routine code.calls-place·part
+    (part-thm.met 𝓤 H 𝓜 𝓖 𝓡)
+    (plan-meets _ _ refl refl (λ b. refl) (λ b. refl) 𝓤 H (𝓖 .A) (givenOf 𝓤 H 𝓜 𝓖) (𝓜 .mem) (𝓡 .run) (tablesOf 𝓤 H 𝓜 (tables 𝓤 H 𝓜 𝓡 code.env)))

@@ -1,52 +1,40 @@
--- The costs still to be written, written over what stands there, give the result.
+-- The costs before cost i are written.
 -- Assumes nothing.
-use mathlib.Core.Path.{_≡_, refl}
-use Prim.Native.Nat.{_+_, _*_, _-_}
+use Prim.Native.Nat.{_-_}
 use native.Mathlib.Omega.{arith}
 use borrow.Author.Needs.{needs}
 use lib.IntN.{pos}
-use lib.ListN.{take, getD}
+use lib.ListN.{getD}
 use mir.Facts.{toZ-ofZ}
 use mir.Syntax.{w64}
 use mir.Val.{SFits}
-use Rattle.model.specs.Lists.{forEach}
-use Rattle.model.specs.Bytes.{signedBytes}
-use Rattle.bytes_io.specs.Slices.{written}
-use Rattle.bytes_io.proofs.Parts.{Filling, fill-start, fill-part, fill-end, partsFrom, parts-start, parts-step, parts-end}
-use Rattle.bytes_io.proofs.Numbers.{length-signed}
+use Rattle.bytes_io.proofs.Numbers.{Writing, writing-start, writing-next, writing-end}
 use Rattle.bytes_io.proofs.write_costs.Statement.{statement}
 use Rattle.bytes_io.proofs.write_costs.Tie as tie
 
 abbrev Inv-loop : tie.InvT-loop
-Inv-loop out₀ at costs k i₀ out i =
-    Filling out₀ at (8 * k) (forEach (signedBytes 8) (take k costs)) out (8 * i) (partsFrom (signedBytes 8) costs k i)
+Inv-loop out₀ at costs k i₀ out i = Writing 8 costs k out₀ at out i
 
 abbrev μ-loop : tie.MeasureT-loop
 μ-loop out₀ at costs k i₀ out i = k - i
 
 loop-holds : tie.Need-loop-holds Inv-loop μ-loop
-loop-holds c =
-    let s = c .before .args in
-    rw (← parts-start (signedBytes 8) (s .costs .now) (s .k)) (fill-start _ _ _ _)
+loop-holds c = let s = c .before .args in writing-start 8 (s .costs .now) (s .k) (s .out .now) (s .at)
 
--- the cost that is read is one of 64 bits
-fit : (c : tie.After-x Inv-loop μ-loop) → SFits w64 (getD (c .before .before .before .before .args .costs .now) (c .before .before .loop .i) (pos 0))
-fit c = record { sfits = c .x .given }
+mul-write-cost : tie.Need-mul-write-cost Inv-loop μ-loop
+mul-write-cost c = search needs
 
-mul-x : tie.Need-mul-x Inv-loop μ-loop
-mul-x c = search needs
+add-write-cost : tie.Need-add-write-cost Inv-loop μ-loop
+add-write-cost c = search needs
 
-shared-slice-copy-out-x : tie.Need-shared-slice-copy-out-x Inv-loop μ-loop
-shared-slice-copy-out-x c = search needs
+mul-write-cost-2 : tie.Need-mul-write-cost-2 Inv-loop μ-loop
+mul-write-cost-2 c = search needs
 
-mul-write-signed : tie.Need-mul-write-signed Inv-loop μ-loop
-mul-write-signed c = search needs
+shared-slice-copy-out-write-cost : tie.Need-shared-slice-copy-out-write-cost Inv-loop μ-loop
+shared-slice-copy-out-write-cost c = search needs
 
-add-write-signed : tie.Need-add-write-signed Inv-loop μ-loop
-add-write-signed c = search needs
-
-write-signed-requires : tie.Need-write-signed-requires Inv-loop μ-loop
-write-signed-requires c κs = let f = fit (c .before) in (omega arith, omega arith, rw (toZ-ofZ f) (omega (arith, f .sfits)))
+write-cost-requires : tie.Need-write-cost-requires Inv-loop μ-loop
+write-cost-requires c κs = search needs
 
 add-i : tie.Need-add-i Inv-loop μ-loop
 add-i c = search needs
@@ -56,14 +44,13 @@ loop-less c = search needs
 
 loop-again : tie.Need-loop-again Inv-loop μ-loop
 loop-again c =
-    let y = c .before .before .write-signed in
-    let l = c .before .before .before .before .before .before .loop in
-    let s = c .before .before .before .before .before .before .before .before in
-    let x = getD (s .args .costs .now) (l .i) (pos 0) in
-    let e : y .last .0 ≡ written (l .out) (s .args .at + 8 * l .i) 8 (signedBytes 8 x)
-    = rw (toZ-ofZ (fit (c .before .before .before .before))) at (y .ensures) in
-    fill-part _ _ _ _ (s .pre .0) (l .inv) 8 (8 * (l .i + 1)) (signedBytes 8 x) _ (length-signed 8 x) refl (omega arith) (omega arith)
-    (parts-step (signedBytes 8) (s .args .costs .now) (s .args .k) (pos 0) (l .i) (omega arith) (omega arith)) e
+    let y = c .before .before .write-cost in
+    let d = c .before .before .before .before in
+    let l = d .before .before .loop in
+    let s = d .before .before .before .before in
+    let f : SFits w64 (getD (s .args .costs .now) (l .i) (pos 0)) = record { sfits = c .before .before .before .write-cost-arg2 .given } in
+    writing-next 8 (s .args .costs .now) (s .args .k) (s .args .out .now) (s .args .at) (s .pre .0) (l .i) (l .inv) (omega arith) (omega arith)
+    (rw (toZ-ofZ f) at (y .ensures))
 
 same-length : tie.Need-same-length Inv-loop μ-loop
 same-length c = c .before .loop .inv .long
@@ -72,7 +59,7 @@ returns : tie.Need-returns Inv-loop μ-loop
 returns c =
     let l = c .before .loop in
     let s = c .before .before .before in
-    fill-end _ _ _ _ (s .pre .0) (l .inv) (omega arith) (parts-end (signedBytes 8) (s .args .costs .now) (s .args .k) (l .i) (omega arith))
+    writing-end 8 (s .args .costs .now) (s .args .k) (s .args .out .now) (s .args .at) (s .pre .0) (l .i) (l .inv) (omega arith)
 
 pub write-costs-spec : {M : Type 1} → statement M
 write-costs-spec =
@@ -81,11 +68,11 @@ write-costs-spec =
     Inv-loop
     μ-loop
     loop-holds
-    mul-x
-    shared-slice-copy-out-x
-    mul-write-signed
-    add-write-signed
-    write-signed-requires
+    mul-write-cost
+    add-write-cost
+    mul-write-cost-2
+    shared-slice-copy-out-write-cost
+    write-cost-requires
     add-i
     loop-less
     loop-again

@@ -1,9 +1,9 @@
 -- `kbest_desk_ask` passes what it is given on to `desk::ask`.
 -- Assumes nothing.
 use contract.Running.{givenOf, tables, tablesOf}
+use Rattle.accept.proofs.Relayed.{relayed}
 use Rattle.desk.proofs.ask.Symbol as called-def
 use Rattle.desk.proofs.ask.Met as called-thm
-use Rattle.kbest_c.proofs.Passed.{relayed}
 use Rattle.kbest_c.proofs.Desks.{ranked}
 use Rattle.kbest_c.proofs.kbest_desk_ask.Key.{name as key}
 use Rattle.kbest_c.proofs.kbest_desk_ask as export

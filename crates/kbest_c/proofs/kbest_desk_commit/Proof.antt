@@ -1,9 +1,9 @@
 -- `kbest_desk_commit` passes what it is given on to `desk::commit`.
 -- Assumes nothing.
 use contract.Running.{givenOf, tables, tablesOf}
+use Rattle.accept.proofs.Relayed.{relayed}
 use Rattle.desk.proofs.commit.Symbol as called-def
 use Rattle.desk.proofs.commit.Met as called-thm
-use Rattle.kbest_c.proofs.Passed.{relayed}
 use Rattle.kbest_c.proofs.Desks.{rider}
 use Rattle.kbest_c.proofs.kbest_desk_commit.Key.{name as key}
 use Rattle.kbest_c.proofs.kbest_desk_commit as export

@@ -1,9 +1,9 @@
 -- `kbest_desk_held` passes what it is given on to `desk::held`.
 -- Assumes nothing.
 use contract.Running.{givenOf, tables, tablesOf}
+use Rattle.accept.proofs.Relayed.{relayed}
 use Rattle.desk.proofs.held.Symbol as called-def
 use Rattle.desk.proofs.held.Met as called-thm
-use Rattle.kbest_c.proofs.Passed.{relayed}
 use Rattle.kbest_c.proofs.Desks.{looked}
 use Rattle.kbest_c.proofs.kbest_desk_held.Key.{name as key}
 use Rattle.kbest_c.proofs.kbest_desk_held as export

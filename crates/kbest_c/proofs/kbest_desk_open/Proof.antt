@@ -1,9 +1,9 @@
 -- `kbest_desk_open` passes what it is given on to `desk::open`.
 -- Assumes nothing.
 use contract.Running.{givenOf, tables, tablesOf}
+use Rattle.accept.proofs.Relayed.{relayed}
 use Rattle.desk.proofs.open.Symbol as called-def
 use Rattle.desk.proofs.open.Met as called-thm
-use Rattle.kbest_c.proofs.Passed.{relayed}
 use Rattle.kbest_c.proofs.Desks.{filed}
 use Rattle.kbest_c.proofs.kbest_desk_open.Key.{name as key}
 use Rattle.kbest_c.proofs.kbest_desk_open as export
