@@ -3,4 +3,5 @@ pub mod Lines
 pub mod Options
 pub mod Shape
 pub mod Demands
+pub mod Difference
 pub mod Bytes

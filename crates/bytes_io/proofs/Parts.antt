@@ -1,16 +1,14 @@
--- Parts of a slice, written or compared one after another.
+-- Parts of a slice, written one after another.
 -- Assumes nothing.
 use mathlib.Core.Path.{_≡_, refl, sym, _∙_}
-use mathlib.Core.Bool.{_&&_}
 use mathlib.Core.List.{List, [], _∷_, _++_, append-assoc}
 use Prim.Native.Nat.{ℕ, suc, _+_, _-_, _≤_, _<_}
 use native.Mathlib.Nat.{add-zero, zero-add, add-assoc}
 use native.Mathlib.Numerals.{add-one}
 use native.Mathlib.Omega.{arith}
-use lib.Dec.{eqb}
 use lib.ListN.{length, take, drop, getD, set, length-append, length-drop}
 use lib.Seq.{length-take-le, take-at, drop-at, drop-drop, drop-cons, set-split, append-snoc, paste-zero}
-use Rattle.model.specs.Lists.{forEach, same}
+use Rattle.model.specs.Lists.{forEach}
 use Rattle.model.specs.Calls.{over}
 use Rattle.bytes_io.specs.Slices.{written}
 
@@ -52,12 +50,6 @@ module _ {A : Type 0} where
   part-step xs i n p q d h l e =
       let k : n - i ≡ suc (n - (i + 1)) = omega arith in
       rw (k, drop-cons xs p d l, e, add-one p)
-
-pub same-bytes-step : (r : List ℕ) (at : ℕ) (src : List ℕ) (i n : ℕ) → i < n → at + n ≤ length r → n ≤ length src
-    → same (take (n - i) (drop (at + i) r)) (take (n - i) (drop i src))
-    ≡ (eqb (getD r (at + i) 0) (getD src i 0) && same (take (n - (i + 1)) (drop (at + (i + 1)) r)) (take (n - (i + 1)) (drop (i + 1) src)))
-same-bytes-step r at src i n h k l =
-    rw (part-step r i n (at + i) (at + (i + 1)) 0 h (omega arith) (omega arith), part-step src i n i (i + 1) 0 h (omega arith) refl)
 
 -- ---- a slice that is filled part by part
 

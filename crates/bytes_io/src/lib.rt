@@ -148,12 +148,5 @@ pub fn same_bytes(r: &[u8], at: usize, src: &[u8], n: usize) -> bool
     requires { ⌜ (at + n ≤ length (now r)) × (n ≤ length (now src)) ⌝ }
     ensures { λ q. ⌜ q ≡ same (take n (drop at (now (r .entry)))) (take n (now (src .entry))) ⌝ }
 {
-    let mut i: usize = 0;
-    while i < n {
-        if r[at + i] != src[i] {
-            return false;
-        }
-        i = i + 1;
-    }
-    true
+    compare::first_difference(r, at, src, n) == n
 }

@@ -8,6 +8,7 @@ pub mod Bounds
 pub mod ToGo
 pub mod Best
 pub mod Policies
+pub mod Difference
 pub mod Ranks
 pub mod Order
 pub mod Greedy
