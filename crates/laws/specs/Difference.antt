@@ -14,7 +14,6 @@ use lib.Seq.{drop-cons}
 use Rattle.model.specs.Lists.{same}
 use Rattle.model.specs.Model.{Action}
 use Rattle.model.specs.Policy.{Policy}
-use Rattle.model.specs.Path.{byteAt}
 use Rattle.model.specs.Order.{lower}
 use Rattle.laws.specs.Policies.{FirstDifference}
 
