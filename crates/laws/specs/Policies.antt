@@ -102,7 +102,7 @@ module _ (g : ℕ → List Policy) (ag : (b : ℕ) → Apart (g b)) where
           omega (arith, below-in os (r .0) (v .1))
 
 module _ (act : ℕ → ℕ → Action) (opts : ℕ → List ℕ) (rising : (p : ℕ) → Rising (opts p)) where
-  allowed-rising : (p : ℕ) (c : Bool) → Rising (allowed (opts p) c)
+  pub allowed-rising : (p : ℕ) (c : Bool) → Rising (allowed (opts p) c)
   allowed-rising p true = rising p
   allowed-rising p false = (tt, tt)
 

@@ -1,0 +1,2 @@
+// The policies in the order of their bytes, each from the one before it: specs/Next.antt has the definition and the laws for any lists of actions,
+// specs/Linked.antt what they rest on, specs/Books.antt the laws of an accepted book.
