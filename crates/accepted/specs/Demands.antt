@@ -28,12 +28,13 @@ use Rattle.model.specs.Calls.{valueNumber, leastNumber, leastCost}
 use Rattle.laws.specs.Int.{≤ℤ-antisym}
 use Rattle.laws.specs.Members.{T-true, true-T, false-T, same-test, In, in-one, every-imp, isIn-in, in-isIn, Apart, AtNexts, at-nexts}
 use Rattle.laws.specs.Kept.{none-in}
-use Rattle.laws.specs.Sorting.{Strict, Total, apart-take, at-in, apart-sorted, sorted-length, listed as list-entries}
+use Rattle.laws.specs.Sorting.{Strict, Total, Rises, apart-take, at-in, apart-sorted, sorted-length, listed as list-entries}
 use Rattle.laws.specs.Paths.{endsAt, weight-paths, cost-paths, positive-paths, path-ends}
 use Rattle.laws.specs.Bounds.{to-go-bound, through-bound, least-bound}
-use Rattle.laws.specs.Policies.{IsPolicy, policy-length, policy-in, in-policy, policies-apart, reachedFrom, reached-mono, reads, reached-closed}
+use Rattle.laws.specs.Policies.{IsPolicy, policy-length, policy-in, in-policy, reachedFrom, reached-mono, reads, reached-closed}
 use Rattle.laws.specs.Policies.{FirstDifference, differ}
 use Rattle.laws.specs.Order.{Low, Before, lower-is, before-is, before-cost, strict, total}
+use Rattle.laws.specs.Ascent.{policies-rise, policies-apart}
 use Rattle.laws.specs.First.{costFrom0, firstPolicy, is-policy, first-cost, cheapest, comes-first}
 use Rattle.accepted.specs.Facts.{accepted}
 use Rattle.accepted.specs.Options.{Option, Feasible, Alive, options-rising, option-open, option-small}
@@ -73,6 +74,11 @@ module _ (ws : Words) (ok : bookNumber ws ≡ 0) where
     λ i. policy-is ws bs .1 (in-policy (action ws) (options ws) (stateCount ws) 0 (0 ∷ []) bs i),
     λ t. policy-in (action ws) (options ws) (stateCount ws) 0 (0 ∷ []) bs (policy-is ws bs .0 t),
   )
+
+  -- they stand in the order of their bytes
+  pub policies-ascend : Rises lower (policies ws)
+  unfolding policies
+  policies-ascend = policies-rise (action ws) (options ws) (options-rising ws) (stateCount ws) 0 (0 ∷ [])
 
   -- none is there twice
   pub policies-once : Apart (policies ws)

@@ -11,6 +11,7 @@ pub mod Policies
 pub mod Difference
 pub mod Ranks
 pub mod Order
+pub mod Ascent
 pub mod Greedy
 pub mod First
 pub mod Feasible

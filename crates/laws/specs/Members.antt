@@ -153,22 +153,6 @@ module _ {A : Type 0} where
   Apart [] = Unit {0}
   Apart (x ∷ xs) = (In x xs → ⊥) × Apart xs
 
-  pub apart-++ : (xs ys : List A) → Apart xs → Apart ys → ((x : A) → In x xs → In x ys → ⊥) → Apart (xs ++ ys)
-  apart-++ [] ys a b d = b
-  apart-++ (x ∷ xs) ys a b d = (λ i. go (in-++ x xs ys i), apart-++ xs ys (a .1) b (λ z i j. d z (inr i) j))
-    where
-      go : In x xs ⊎ In x ys → ⊥
-      go (inl i) = a .0 i
-      go (inr i) = d x (inl refl) i
-
-module _ {A B : Type 0} where
-  pub apart-map : (f : A → B) → ((x y : A) → f x ≡ f y → x ≡ y) → (xs : List A) → Apart xs → Apart (map f xs)
-  apart-map f once [] a = tt
-  apart-map f once (x ∷ xs) a = (λ i. a .0 (go (in-map f (f x) xs i)), apart-map f once xs (a .1))
-    where
-      go : (y : A) × (f x ≡ f y) × In y xs → In x xs
-      go r = subst (λ (z : A). In z xs) (sym (once x (r .0) (r .1))) (r .2)
-
 -- ---- numbers that rise
 
 -- x is below each of ys

@@ -1,11 +1,10 @@
 -- Policies as bytes, one for each state in order. `act p c` is action c of state p; `opts p` are the actions that a policy may take at p. The test
--- `fits` and the enumeration `policiesFrom` agree on what a policy is; no policy is enumerated twice; and two policies that differ do so first at a
--- state that both reach.
+-- `fits` and the enumeration `policiesFrom` agree on what a policy is, and two policies that differ do so first at a state that both reach.
 -- Assumes nothing.
 use mathlib.Core.Path.{_≡_, refl, sym, ap, ap₂, _∙_, subst, fun-ext}
 use mathlib.Core.Bool.{Bool, true, false}
 use mathlib.Core.Logic.{_⊎_, inl, inr, _↔_}
-use mathlib.Core.List.{List, [], _∷_, _++_, map, head-eq-of-cons-eq, tail-eq-of-cons-eq}
+use mathlib.Core.List.{List, [], _∷_, _++_, map}
 use Prim.Native.Nat.{ℕ, zero, suc, _+_, _≤_, _<_}
 use native.Mathlib.Nat.{eq-or-lt-of-le, add-zero, add-suc, suc-add}
 use native.Mathlib.Decide.{ℕ-discrete}
@@ -17,7 +16,7 @@ use Rattle.model.specs.Model.{Transition, Action}
 use Rattle.model.specs.Policy.{Policy, nexts, allowed, onward, fits, policiesFrom}
 use Rattle.model.specs.Path.{byteAt}
 use Rattle.laws.specs.Members.{T-true, true-T, and-T, T-and, In, in-one, in-++, ++-in, in-forEach, forEach-in, in-map, map-in, isIn-in, in-isIn}
-use Rattle.laws.specs.Members.{Apart, apart-++, apart-map, Rising, below-in, AtNexts, at-nexts, nexts-at}
+use Rattle.laws.specs.Members.{AtNexts, at-nexts, nexts-at}
 
 -- byte b in front of each of the policies g b
 abbrev beginWith : (ℕ → List Policy) → ℕ → List Policy
@@ -83,34 +82,6 @@ module _ (act other : ℕ → ℕ → Action) (transitions : (p c : ℕ) → oth
       (fun-ext (λ b. ap (λ (ts : List Transition). policiesFrom other others n (suc p) (nexts ts ++ reach)) (transitions p b)
       ∙ policies-same n (suc p) (onward act p b reach) (λ q l. h q (omega arith))))
       (h p (omega arith))
-
--- ---- no policy is enumerated twice
-
-module _ (g : ℕ → List Policy) (ag : (b : ℕ) → Apart (g b)) where
-  apart-each : (os : List ℕ) → Rising os → Apart (forEach (beginWith g) os)
-  apart-each [] r = tt
-  apart-each (b ∷ os) r =
-      apart-++ (beginWith g b) (forEach (beginWith g) os)
-      (apart-map (λ (bs : Policy). b ∷ bs) (λ x y e. tail-eq-of-cons-eq e) (g b) (ag b)) (apart-each os (r .1)) clash
-    where
-      clash : (x : Policy) → In x (beginWith g b) → In x (forEach (beginWith g) os) → ⊥
-      clash x i j =
-          let u = in-map (λ (bs : Policy). b ∷ bs) x (g b) i in
-          let v = in-forEach (beginWith g) x os j in
-          let w = in-map (λ (bs : Policy). v .0 ∷ bs) x (g (v .0)) (v .2) in
-          let e : b ≡ v .0 = head-eq-of-cons-eq (sym (u .1) ∙ w .1) in
-          omega (arith, below-in os (r .0) (v .1))
-
-module _ (act : ℕ → ℕ → Action) (opts : ℕ → List ℕ) (rising : (p : ℕ) → Rising (opts p)) where
-  pub allowed-rising : (p : ℕ) (c : Bool) → Rising (allowed (opts p) c)
-  allowed-rising p true = rising p
-  allowed-rising p false = (tt, tt)
-
-  pub policies-apart : (n p : ℕ) (reach : List ℕ) → Apart (policiesFrom act opts n p reach)
-  policies-apart zero p reach = (λ i. i, tt)
-  policies-apart (suc n) p reach =
-      apart-each (rest act opts n p reach) (λ b. policies-apart n (suc p) (onward act p b reach))
-      (allowed (opts p) (isIn p reach)) (allowed-rising p (isIn p reach))
 
 -- ---- the states reached
 

@@ -1,3 +1,4 @@
 pub mod Linked
 pub mod Next
+pub mod Raise
 pub mod Books

@@ -10,15 +10,12 @@ use mathlib.Core.Option.{Option, none, some}
 use Prim.Native.Nat.{ℕ, zero, suc, _<_}
 use native.Mathlib.Omega.{arith}
 use borrow.Author.Tests.{lt-ltb, le-ltb}
-use lib.Dec.{T, ltb}
+use lib.Dec.{ltb}
 use Rattle.model.specs.Lists.{isIn, forEach}
 use Rattle.model.specs.Model.{Transition, Action}
 use Rattle.model.specs.Policy.{Policy, nexts, allowed, onward, policiesFrom}
-use Rattle.model.specs.Order.{lower}
-use Rattle.laws.specs.Members.{true-T, In, Every, every-in, in-every, in-one, in-++, in-forEach, in-map, isIn-in, Rising, below-in, at-nexts}
-use Rattle.laws.specs.Sorting.{Rises}
-use Rattle.laws.specs.Policies.{allowed-rising}
-use Rattle.laws.specs.Order.{lower-is}
+use Rattle.laws.specs.Members.{true-T, In, Every, in-one, in-++, isIn-in, Rising, below-in, at-nexts}
+use Rattle.laws.specs.Ascent.{allowed-rising}
 use Rattle.laws.specs.First.{Lists}
 use Rattle.next_policy.specs.Linked.{headOr, Linked, linked-++}
 
@@ -97,14 +94,6 @@ module _ (b : ℕ) where
       after [] = refl
       after (y ∷ ys) = refl
 
-  rises-begin : (xs : List Policy) → Rises lower xs → Rises lower (beginWith xs)
-  rises-begin [] r = tt
-  rises-begin (x ∷ xs) r = (
-    in-every (λ y. T (lower (b ∷ x) y)) (beginWith xs) (λ y i. let m = in-map (λ (bs : Policy). b ∷ bs) y xs i in
-        rw (m .1) (lower-is (b ∷ x) (b ∷ m .0) .1 (inr (refl, lower-is x (m .0) .0 (every-in (λ z. T (lower x z)) xs (r .0) (m .0) (m .2)))))),
-    rises-begin xs (r .1),
-  )
-
 module _ (g : ℕ → List Policy) where
   -- for each first byte of a list
   abbrev beginEach : List ℕ → List Policy
@@ -125,35 +114,7 @@ module _ (g : ℕ → List Policy) where
         (λ bs. e b bs ∙ ap (behind b (nx b bs)) (ap (ahead low) (l .0) ∙ sym (head-each os (λ c i. h c (inr i))))) (k b (inl refl)))
         (linked-each nx next above os e (l .1) (λ c i. h c (inr i)) (λ c i. k c (inr i)))
 
-  rises-each : ((b : ℕ) → Rises lower (g b)) → (os : List ℕ) → Rising os → Rises lower (beginEach os)
-  rises-each h [] r = tt
-  rises-each h (b ∷ os) r = join (beginWith b (g b)) (rises-begin b (g b) (h b)) (rises-each h os (r .1)) front
-    where
-      front : (x y : Policy) → In x (beginWith b (g b)) → In y (beginEach os) → T (lower x y)
-      front x y i j =
-          let u = in-map (λ (bs : Policy). b ∷ bs) x (g b) i in
-          let v = in-forEach (λ (c : ℕ). beginWith c (g c)) y os j in
-          let w = in-map (λ (bs : Policy). v .0 ∷ bs) y (g (v .0)) (v .2) in
-          rw (u .1, w .1) (lower-is (b ∷ u .0) (v .0 ∷ w .0) .1 (inl (below-in os (r .0) (v .1))))
-
-      join : (xs : List Policy) → Rises lower xs → Rises lower (beginEach os) → ((x y : Policy) → In x xs → In y (beginEach os) → T (lower x y))
-          → Rises lower (xs ++ beginEach os)
-      join [] a c d = c
-      join (x ∷ xs) a c d = (
-        in-every (λ y. T (lower x y)) (xs ++ beginEach os)
-            (λ y i. ⊎-elim (every-in (λ z. T (lower x z)) xs (a .0) y) (d x y (inl refl)) (in-++ y xs (beginEach os) i)),
-        join xs (a .1) c (λ z y i j. d z y (inr i) j),
-      )
-
 -- ---- the enumeration
-
--- "in the order of their bytes"
-pub policies-rise : (act : ℕ → ℕ → Action) (opts : ℕ → List ℕ) → ((p : ℕ) → Rising (opts p)) → (n p : ℕ) (reach : List ℕ)
-    → Rises lower (policiesFrom act opts n p reach)
-policies-rise act opts rising zero p reach = (tt, tt)
-policies-rise act opts rising (suc n) p reach =
-    rises-each (λ b. policiesFrom act opts n (suc p) (onward act p b reach)) (λ b. policies-rise act opts rising n (suc p) (onward act p b reach))
-    (allowed (opts p) (isIn p reach)) (allowed-rising act opts rising p (isIn p reach))
 
 module _ (act : ℕ → ℕ → Action) (Alive : ℕ → Type 0) (lists : ℕ → List ℕ) (li : Lists Alive act lists)
     (bare : (p : ℕ) → act p 255 .transitions ≡ []) where

@@ -21,8 +21,9 @@ use Rattle.model.specs.Path.{byteAt}
 use Rattle.model.specs.Order.{lower, before}
 use Rattle.laws.specs.Int.{leZ-no}
 use Rattle.laws.specs.Members.{true-T, false-T, In, in-one, Every, isIn-in, in-isIn, Rising, AtNexts}
-use Rattle.laws.specs.Policies.{IsPolicy, policy-in, in-policy, policies-apart, reads}
+use Rattle.laws.specs.Policies.{IsPolicy, policy-in, in-policy, reads}
 use Rattle.laws.specs.Order.{lower-is, before-is, strict, total}
+use Rattle.laws.specs.Ascent.{policies-apart}
 use Rattle.laws.specs.Greedy.{byte-cases}
 use Rattle.laws.specs.First.{Shape, Lists, costFrom0, firstPolicy, is-policy, cheapest, comes-first}
 use Rattle.splits.specs.Parts.{without, without-in, rising-without, split-lt, split-eq, split-gt, part}
