@@ -41,7 +41,8 @@ use Rattle.accepted.specs.Options.{Option, Feasible, Alive, options-risi
 use Rattle.accepted.specs.Shape.{policy-is, has-policy, shape, nexts-alive, lists, policy-feasible, has-alive, togo-start, weights-bound, cost-bound, cost-feasible}
 use Rattle.questions.specs.FirstNo.{passes, fails, none as none-left, then-yes}
 use Rattle.laws.specs.Entries.{in-at, some-at, map-at, take-one, count-most, count-none, by-rank}
-use Rattle.laws.specs.Walks.{policy-allowed, allowed-policy, reached-from, low-at}
+use Rattle.laws.specs.Walks.{policy-allowed, allowed-policy, reached-from}
+use Rattle.laws.specs.Difference.{low-at}
 
 not-in : (x : ℕ) (ys : List ℕ) → (In x ys → ⊥) → isIn x ys ≡ false
 not-in x ys h = same-test (isIn x ys) false (λ t. h (isIn-in x ys t)) (λ t. absurd t)
@@ -371,7 +372,7 @@ module _ (ws : Words) (ok : bookNumber ws ≡ 0) where
 
       low : Low bs cs ↔ (byteAt bs (d .index) < byteAt cs (d .index))
       low =
-          low-at bs cs (d .index) (omega (arith, policy-bytes bs .0 t .long)) (omega (arith, policy-bytes cs .0 u .long)) (d .agree)
+          low-at bs cs (d .index) (policy-bytes bs .0 t .long ∙ sym (policy-bytes cs .0 u .long)) (omega (arith, policy-bytes bs .0 t .long)) (d .agree)
           (d .disagree)
 
       Says : Type 0

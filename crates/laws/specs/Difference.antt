@@ -3,19 +3,23 @@
 -- Assumes nothing.
 use mathlib.Core.Path.{_≡_, refl, sym, ap, ap₂, _∙_}
 use mathlib.Core.Bool.{Bool, true, false, _&&_, _||_, cond}
+use mathlib.Core.Logic.{_↔_}
 use mathlib.Core.List.{List, [], _∷_}
 use Prim.Native.Nat.{ℕ, zero, suc, _≤_, _<_}
 use native.Mathlib.Decide.{ℕ-discrete}
 use native.Mathlib.Omega.{arith}
-use borrow.Author.Tests.{eq-eqb, ne-eqb, le-ltb, eqb-true, eqb-false}
+use borrow.Author.Tests.{eq-eqb, ne-eqb, lt-ltb, le-ltb, ltb-true, eqb-true, eqb-false}
 use lib.Dec.{eqb, ltb, eqb·suc-suc}
 use lib.ListN.{length, getD, drop, List·getD-eq-default}
 use lib.Seq.{drop-cons}
 use Rattle.model.specs.Lists.{same}
 use Rattle.model.specs.Model.{Action}
 use Rattle.model.specs.Policy.{Policy}
+use Rattle.model.specs.Path.{byteAt}
 use Rattle.model.specs.Order.{lower}
+use Rattle.laws.specs.Members.{T-true, true-T}
 use Rattle.laws.specs.Policies.{FirstDifference}
+use Rattle.laws.specs.Order.{Low, lower-is}
 
 -- how many bytes from the front agree: the first place where the lists differ, or the length of the shorter
 abbrev pub firstDifference : List ℕ → List ℕ → ℕ
@@ -117,7 +121,18 @@ lower-first d (b ∷ bs) (c ∷ cs) e = go (eqb b c) refl (lower-first d bs cs (
     go true h ih = let q = eqb-true b c h in rw (le-ltb b c (omega arith)) ih
     go false h ih = left-alone (ltb b c)
 
--- so where it is the end, neither is lower
+-- so of two lists that differ, the one with the lower byte at the first place where they do has the lower bytes
+pub low-at : (bs cs : Policy) (i : ℕ) → length bs ≡ length cs → i < length bs → ((j : ℕ) → j < i → byteAt bs j ≡ byteAt cs j)
+    → (byteAt bs i ≡ byteAt cs i → ⊥) → Low bs cs ↔ (byteAt bs i < byteAt cs i)
+low-at bs cs i e h agree differ = (
+  λ l. ltb-true (byteAt bs i) (byteAt cs i) (sym is ∙ T-true (lower bs cs) (lower-is bs cs .1 l)),
+  λ l. lower-is bs cs .0 (true-T (is ∙ lt-ltb (byteAt bs i) (byteAt cs i) l)),
+)
+  where
+    is : lower bs cs ≡ ltb (byteAt bs i) (byteAt cs i)
+    is = rw (← first-only 255 bs cs i h (omega arith) agree differ) (lower-first 255 bs cs e)
+
+-- where it is the end, neither is lower
 pub lower-end : (bs cs : List ℕ) → length bs ≡ length cs → firstDifference bs cs ≡ length bs → lower bs cs ≡ false
 lower-end bs cs e f =
     lower-first 0 bs cs e

@@ -8,10 +8,10 @@ pub mod Bounds
 pub mod ToGo
 pub mod Best
 pub mod Policies
-pub mod Difference
 pub mod Ranks
 pub mod Order
 pub mod Ascent
+pub mod Difference
 pub mod Greedy
 pub mod First
 pub mod Feasible

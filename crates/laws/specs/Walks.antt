@@ -2,7 +2,7 @@
 -- Assumes nothing.
 use mathlib.Core.Path.{_≡_, refl, sym, ap, _∙_, subst}
 use mathlib.Core.Bool.{Bool, true, false}
-use mathlib.Core.Logic.{_⊎_, inl, inr, _↔_}
+use mathlib.Core.Logic.{_⊎_, inl, inr}
 use mathlib.Core.List.{List, [], _∷_}
 use Prim.Native.Nat.{ℕ, zero, suc, _+_, _≤_, _<_}
 use native.Mathlib.Nat.{eq-or-lt-of-le}
@@ -15,7 +15,6 @@ use Rattle.model.specs.Policy.{Policy, nexts, allowed, onward}
 use Rattle.model.specs.Path.{byteAt}
 use Rattle.laws.specs.Members.{T-true, true-T, In, in-one, in-++, isIn-in, in-isIn, AtNexts, at-nexts}
 use Rattle.laws.specs.Policies.{IsPolicy, policy-length, reachedFrom, reached-mono, reached-late, Reads, reads}
-use Rattle.laws.specs.Order.{Low}
 
 module _ (act : ℕ → ℕ → Action) (opts : ℕ → List ℕ) (later : (p c : ℕ) → AtNexts (λ q. p < q) (act p c .transitions)) where
   -- at its turn in the walk a state is known to be reached if it is reached at all
@@ -114,22 +113,3 @@ other-options act later opts others n bs h is =
     go : (q : ℕ) (b : Bool) → isIn q all ≡ b → In (byteAt bs q) (allowed (opts q) b) → In (byteAt bs q) (allowed (others q) b)
     go q true e o = h q (isIn-in q all (true-T e)) o
     go q false e o = o
-
--- of two lists of bytes, the one with the lower byte at the first place where they differ has the lower bytes
-pub low-at : (bs cs : Policy) (i : ℕ) → i < length bs → i < length cs → ((j : ℕ) → j < i → byteAt bs j ≡ byteAt cs j)
-    → (byteAt bs i ≡ byteAt cs i → ⊥) → Low bs cs ↔ (byteAt bs i < byteAt cs i)
-low-at [] cs i h k agree differ = absurd (omega arith)
-low-at (b ∷ bs) [] i h k agree differ = absurd (omega arith)
-low-at (b ∷ bs) (c ∷ cs) zero h k agree differ = (to, λ l. inl l)
-  where
-    to : (b < c) ⊎ ((b ≡ c) × Low bs cs) → b < c
-    to (inl l) = l
-    to (inr l) = absurd (differ (l .0))
-low-at (b ∷ bs) (c ∷ cs) (suc i) h k agree differ =
-    let e : b ≡ c = agree 0 (omega arith) in
-    let ih = low-at bs cs i (omega arith) (omega arith) (λ j l. agree (suc j) (omega arith)) differ in
-    (λ l. to e (ih .0) l, λ l. inr (e, ih .1 l))
-  where
-    to : b ≡ c → (Low bs cs → byteAt bs i < byteAt cs i) → (b < c) ⊎ ((b ≡ c) × Low bs cs) → byteAt bs i < byteAt cs i
-    to e ih (inl l) = absurd (omega arith)
-    to e ih (inr l) = ih (l .1)
