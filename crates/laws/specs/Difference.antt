@@ -5,7 +5,7 @@ use mathlib.Core.Path.{_≡_, refl, sym, ap, ap₂, _∙_}
 use mathlib.Core.Bool.{Bool, true, false, _&&_, _||_, cond}
 use mathlib.Core.Logic.{_↔_}
 use mathlib.Core.List.{List, [], _∷_}
-use Prim.Native.Nat.{ℕ, zero, suc, _≤_, _<_}
+use Prim.Native.Nat.{ℕ, zero, suc, _<_}
 use native.Mathlib.Decide.{ℕ-discrete}
 use native.Mathlib.Omega.{arith}
 use borrow.Author.Tests.{eq-eqb, ne-eqb, lt-ltb, le-ltb, ltb-true, eqb-true, eqb-false}
@@ -54,16 +54,6 @@ module _ (d : ℕ) (bs cs : List ℕ) (i : ℕ) (h : i < length bs) (k : i < len
 
 -- ---- lists of one length
 
--- it is no further than the end
-pub first-most : (bs cs : List ℕ) → length bs ≡ length cs → firstDifference bs cs ≤ length bs
-first-most [] cs e = omega arith
-first-most (b ∷ bs) [] e = absurd (omega arith)
-first-most (b ∷ bs) (c ∷ cs) e = go (eqb b c) (first-most bs cs (omega arith))
-  where
-    go : (t : Bool) → firstDifference bs cs ≤ length bs → cond t (suc (firstDifference bs cs)) 0 ≤ suc (length bs)
-    go true h = omega arith
-    go false h = omega arith
-
 -- the bytes before it agree
 pub first-agree : (d : ℕ) (bs cs : List ℕ) (j : ℕ) → j < firstDifference bs cs → getD bs j d ≡ getD cs j d
 first-agree d [] cs j l = absurd (omega arith)
@@ -76,7 +66,7 @@ first-agree d (b ∷ bs) (c ∷ cs) j l = go (eqb b c) refl j l (first-agree d b
     go true e (suc i) l ih = ih i (omega arith)
     go false e j l ih = absurd (omega arith)
 
--- and where it is before the end, those at it do not
+-- and where it is before the end of both, those at it do not
 pub first-disagree : (d : ℕ) (bs cs : List ℕ) → length bs ≡ length cs → firstDifference bs cs < length bs
     → getD bs (firstDifference bs cs) d ≡ getD cs (firstDifference bs cs) d → ⊥
 first-disagree d [] cs e l q = omega arith
