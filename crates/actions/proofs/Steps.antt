@@ -1,38 +1,153 @@
--- The questions 9 to 12 of one action, by the words that are read.
+-- The questions 9 to 13 of one action, by the words that are read.
 -- Assumes nothing.
 use mathlib.Core.Path.{_≡_, refl, sym, ap, ap₂, _∙_}
-use mathlib.Core.Bool.{true, false, _&&_}
+use mathlib.Core.Bool.{Bool, true, false, _&&_, _||_, cond}
 use Prim.Native.Nat.{ℕ, zero, suc, _+_, _-_, _≤_, _<_}
 use native.Mathlib.Omega.{arith}
-use borrow.Author.Tests.{eq-eqb, ne-eqb, le-leb, lt-leb, leb-true}
+use borrow.Author.Tests.{le-leb, leb-true, ltb-true, lt-ltb}
 use lib.IntN.{ℤ, pos, negsuc, natAbs}
 use lib.Signed.{ltZ}
-use lib.Dec.{leb}
+use lib.Dec.{leb, eqb, leb·suc-suc}
 use Rattle.model.specs.Lists.{all, sumTo}
-use Rattle.model.specs.Model.{Words, word, scale, horizon, lineCount, left, right, branches, lineAfter, stageSize}
-use Rattle.model.specs.Questions.{inside, branchesInside, costInside, nextBefore, branchesAllowed, costAllowed, nextsAllowed, weightSum, weightsAllowed}
-use Rattle.questions.specs.Ranges.{and-true, and-right, all-same, sum-same}
+use Rattle.model.specs.Model.{Words, word, scale, horizon, lineCount, left, right, branches, lineAfter, stageSize, closed}
+use Rattle.model.specs.Questions.{inside, mostBranches, branchesInside, costInside, nextBefore, branchesAllowed, costAllowed, nextsAllowed, weightSum, weightsAllowed, openSize}
+use Rattle.questions.specs.Ranges.{and-true, and-right, all-at, all-yes, all-fails, all-same, sum-same, sum-step, sum-mono, inside-range}
 use Rattle.book.specs.Read.{SizesAre}
 use Rattle.book.specs.declared.Sizes.{Sizes}
 use Rattle.book.proofs.Columns.{left-is, right-is}
-use Rattle.actions.specs.Action.{prevAt, nextAllowed, WeighedAs, actionNumber}
-use Rattle.actions.specs.declared.Weighed.{Weighed}
+use Rattle.actions.specs.Action.{prevAt, nextAllowed, risesAt, weightsFit, costUpTo, actionNumber}
 
-pub prev-first : (ws : Words) (at i : ℕ) → i ≡ 0 → prevAt ws at i ≡ negsuc 0
-prev-first ws at zero e = refl
-prev-first ws at (suc i) e = absurd (omega arith)
+-- two tests that each follow from the other
+same-test : (a b : Bool) → (a ≡ true → b ≡ true) → (b ≡ true → a ≡ true) → a ≡ b
+same-test true b f g = sym (f refl)
+same-test false true f g = g refl
+same-test false false f g = refl
 
-pub prev-later : (ws : Words) (at i : ℕ) → (i ≡ 0 → ⊥) → prevAt ws at i ≡ word ws (at + (i - 1))
-prev-later ws at zero h = absurd (h refl)
-prev-later ws at (suc i) h = ap (λ (k : ℕ). word ws (at + k)) (omega arith)
+same-leb : (a b c d : ℕ) → (a ≤ b → c ≤ d) → (c ≤ d → a ≤ b) → leb a b ≡ leb c d
+same-leb a b c d f g =
+    same-test (leb a b) (leb c d) (λ e. le-leb c d (f (leb-true a b e))) (λ e. le-leb a b (g (leb-true c d e)))
 
-module _ (ws : Words) (z : Sizes) (are : SizesAre ws z) (i : ℕ) where
-  pub inside-is : (n : ℕ) → branchesInside (left ws i) n (horizon ws) ≡ branchesInside (word ws (z .columns + i)) n (z .h)
-  inside-is n = ap₂ (λ (x : ℤ) (h : ℕ). branchesInside x n h) (sym (left-is ws z are i (z .columns + i) refl)) (sym (are .h-is))
+and-end : (a : Bool) → (a && true) ≡ a
+and-end true = refl
+and-end false = refl
 
-  pub cost-is : (n : ℕ) → costAllowed ws n i ≡ costInside (word ws (z .columns + i + z .l))
+-- ---- 9
+
+-- the most transitions are tested where the definition has a test for each kind of stage
+pub inside-most : (z : ℤ) (n h : ℕ) → inside (pos 0) (cond (eqb n h) (pos 0) (pos mostBranches)) z ≡ branchesInside z n h
+inside-most z n h = go (eqb n h)
+  where
+    go : (b : Bool) → inside (pos 0) (cond b (pos 0) (pos mostBranches)) z ≡ cond b (inside (pos 0) (pos 0) z) (inside (pos 0) (pos mostBranches) z)
+    go true = refl
+    go false = refl
+
+module _ (ws : Words) (z : Sizes) (are : SizesAre ws z) (n j at : ℕ) (a : at ≡ z .columns + j) where
+  abbrev tested : Bool
+  tested = inside (pos 0) (cond (eqb n (z .h)) (pos 0) (pos mostBranches)) (word ws at)
+
+  inside-is : branchesInside (left ws j) n (horizon ws) ≡ tested
+  inside-is =
+      ap₂ (λ (x : ℤ) (h : ℕ). branchesInside x n h) (sym (left-is ws z are j at a)) (sym (are .h-is))
+      ∙ sym (inside-most (word ws at) n (z .h))
+
+  pub unbranched : tested ≡ false → false ≡ branchesAllowed ws n j
+  unfolding branchesAllowed
+  unbranched e = rw (inside-is, e)
+
+  pub fit-is : tested ≡ true → (r : ℕ) → r ≡ natAbs (word ws at) → leb (at + 1 + r) (z .columns + z .l) ≡ branchesAllowed ws n j
+  unfolding branchesAllowed lineAfter branches
+  fit-is e r b =
+      rw (inside-is, e, sym (left-is ws z are j at a), sym b, sym (are .l-is))
+      (same-leb (at + 1 + r) (z .columns + z .l) (j + 1 + r) (z .l) (λ h. omega (arith, a)) (λ h. omega (arith, a)))
+
+-- what it leaves
+module _ (ws : Words) (n j : ℕ) (e : branchesAllowed ws n j ≡ true) where
+  pub fit-bound : lineAfter ws j ≤ lineCount ws
+  unfolding branchesAllowed
+  fit-bound =
+      leb-true (lineAfter ws j) (lineCount ws)
+      (and-true (branchesInside (left ws j) n (horizon ws)) (leb (lineAfter ws j) (lineCount ws)) e .1)
+
+  -- at stage H an action has no transition
+  none-at-last : eqb n (horizon ws) ≡ true → branches ws j ≡ 0
+  unfolding branchesAllowed branches
+  none-at-last l =
+      let i = and-true (branchesInside (left ws j) n (horizon ws)) (leb (lineAfter ws j) (lineCount ws)) e .0 in
+      let k : inside (pos 0) (pos 0) (left ws j) ≡ true = rw l at i in
+      omega (arith, inside-range 0 0 (left ws j) k)
+
+-- ---- 10
+
+pub cost-is : (z : ℤ) → leb (openSize z) 100000 ≡ costInside z
+cost-is (pos m) = go (closed (pos m))
+  where
+    go : (b : Bool) → leb (cond b 0 m) 100000 ≡ (b || leb m 100000)
+    go true = refl
+    go false = refl
+cost-is (negsuc m) = leb·suc-suc m 99999 ∙ sym (and-end (leb m 99999))
+
+module _ (ws : Words) (z : Sizes) (are : SizesAre ws z) (n j at size : ℕ) (a : at ≡ z .columns + j + z .l) (e : size ≡ openSize (word ws at)) where
+  size-is : size ≡ openSize (right ws j)
+  size-is = e ∙ ap openSize (right-is ws z are j at (omega (arith, a)))
+
+  pub cost-asked : leb size 100000 ≡ costAllowed ws n j
   unfolding costAllowed
-  cost-is n = ap costInside (sym (right-is ws z are i (z .columns + i + z .l) (omega arith)))
+  cost-asked = rw size-is (cost-is (right ws j))
+
+  pub bound-asked : (most : ℕ) → leb size most ≡ costUpTo most ws n j
+  unfolding costUpTo
+  bound-asked most = rw size-is
+
+-- ---- 11
+
+below : (x y : ℤ) (w : ℕ) → ltZ x y ≡ true → ltZ y (pos w) ≡ true → ltZ x (pos w) ≡ true
+below (pos a) (pos b) w e f = lt-ltb a w (omega (arith, ltb-true a b e, ltb-true b w f))
+below (pos a) (negsuc b) w e f = let z : _≡_ {A = ℕ} 0 1 = cc in absurd (omega arith)
+below (negsuc a) y w e f = refl
+
+module _ (ws : Words) (at width : ℕ) where
+  abbrev next : ℕ → Bool
+  next = nextAllowed ws at width
+
+  pub first-fails : (r : ℕ) → (r ≡ 0 → ⊥) → ltZ (negsuc 0) (word ws at) ≡ false → all r next ≡ false
+  first-fails r some e =
+      let k : at + 0 ≡ at = omega arith in
+      all-fails r next 0 (omega arith) (rw (k, e))
+
+  pub last-fails : (r : ℕ) → (r ≡ 0 → ⊥) → ltZ (word ws (at + (r - 1))) (pos width) ≡ false → all r next ≡ false
+  last-fails r some e =
+      all-fails r next (r - 1) (omega arith) (rw e (and-right (ltZ (prevAt ws at (r - 1)) (word ws (at + (r - 1))))))
+
+  -- the first is not below 0 and the last is below the width: the rest is their order
+  module _ (n : ℕ) (first : ltZ (negsuc 0) (word ws at) ≡ true) (last : ltZ (word ws (at + n)) (pos width) ≡ true) where
+    above : all n (risesAt ws at) ≡ true → (i : ℕ) → i < suc n → ltZ (prevAt ws at i) (word ws (at + i)) ≡ true
+    above e zero h = let k : at + 0 ≡ at = omega arith in rw k first
+    above e (suc i) h = let k : at + suc i ≡ at + i + 1 = omega arith in rw k (all-at n (risesAt ws at) e i (omega arith))
+
+    under : all n (risesAt ws at) ≡ true → (k i : ℕ) → i + k ≡ n → ltZ (word ws (at + i)) (pos width) ≡ true
+    under e zero i q = let s : i ≡ n = omega arith in rw s last
+    under e (suc k) i q =
+        let s : at + i + 1 ≡ at + (i + 1) = omega arith in
+        below (word ws (at + i)) (word ws (at + (i + 1))) width (rw s at (all-at n (risesAt ws at) e i (omega arith)))
+        (under e k (i + 1) (omega arith))
+
+    rise : all n (risesAt ws at) ≡ all (suc n) next
+    rise =
+        same-test (all n (risesAt ws at)) (all (suc n) next)
+        (λ e. all-yes (suc n) next (λ i h. rw (above e i h, under e (n - i) i (omega arith))))
+        (λ e. all-yes n (risesAt ws at) (λ i h. one i (all-at (suc n) next e (suc i) (omega arith))))
+      where
+        one : (i : ℕ) → next (suc i) ≡ true → risesAt ws at i ≡ true
+        one i e =
+            let k : at + i + 1 ≡ at + suc i = omega arith in
+            rw k (and-true (ltZ (word ws (at + i)) (word ws (at + suc i))) (ltZ (word ws (at + suc i)) (pos width)) e .0)
+
+  pub all-rise : (r : ℕ) → (r ≡ 0 → ⊥) → ltZ (negsuc 0) (word ws at) ≡ true → ltZ (word ws (at + (r - 1))) (pos width) ≡ true
+      → all (r - 1) (risesAt ws at) ≡ all r next
+  all-rise zero some f l = absurd (some refl)
+  all-rise (suc n) some f l =
+      let k : suc n - 1 ≡ n = omega arith in
+      rw k (rise n f (rw k at l))
 
 module _ (ws : Words) (z : Sizes) (are : SizesAre ws z) (n j : ℕ) where
   pub nexts-are : (at r width : ℕ) → at ≡ z .columns + j + 1 → r ≡ branches ws j → width ≡ stageSize ws (n + 1)
@@ -40,85 +155,94 @@ module _ (ws : Words) (z : Sizes) (are : SizesAre ws z) (n j : ℕ) where
   unfolding nextsAllowed
   nexts-are at r width a b w = rw (b, w) (all-same (branches ws j) _ _ one)
     where
-      next : (i : ℕ) → word ws (at + i) ≡ left ws (j + 1 + i)
-      next i = left-is ws z are (j + 1 + i) (at + i) (omega (arith, a))
+      next-is : (i : ℕ) → word ws (at + i) ≡ left ws (j + 1 + i)
+      next-is i = left-is ws z are (j + 1 + i) (at + i) (omega (arith, a))
 
       prev : (i : ℕ) → prevAt ws at i ≡ nextBefore ws j i
       prev zero = refl
-      prev (suc i) = next i
+      prev (suc i) = next-is i
 
       one : (i : ℕ) → i < branches ws j → nextAllowed ws at (stageSize ws (n + 1)) i
           ≡ (ltZ (nextBefore ws j i) (left ws (j + 1 + i)) && ltZ (left ws (j + 1 + i)) (pos (stageSize ws (n + 1))))
-      one i h = ap₂ (λ (x y : ℤ). ltZ x y && ltZ y (pos (stageSize ws (n + 1)))) (prev i) (next i)
+      one i h = ap₂ (λ (x y : ℤ). ltZ x y && ltZ y (pos (stageSize ws (n + 1)))) (prev i) (next-is i)
 
-  module _ (at r : ℕ) (a : at ≡ z .columns + j + z .l + 1) (b : r ≡ branches ws j) where
-    weight : (i : ℕ) → word ws (at + i) ≡ right ws (j + 1 + i)
-    weight i = right-is ws z are (j + 1 + i) (at + i) (omega (arith, a))
+-- ---- 12
 
-    pub weights-are : all r (λ (i : ℕ). inside (pos 1) (pos (z .d)) (word ws (at + i)))
-        ≡ all (branches ws j) (λ (i : ℕ). inside (pos 1) (pos (scale ws)) (right ws (j + 1 + i)))
-    weights-are =
-        rw (b, are .d-is) (all-same (branches ws j) _ _ (λ i h. ap (λ (x : ℤ). inside (pos 1) (pos (scale ws)) x) (weight i)))
+-- a word that is at most d, tested from above 0 only
+positive : (x : ℤ) (d : ℕ) → natAbs x ≤ d → ltZ (pos 0) x ≡ inside (pos 1) (pos d) x
+positive (pos m) d h = rw (le-leb m d h) (sym (and-end (leb 1 m)))
+positive (negsuc m) d h = refl
 
-    pub sum-are : sumTo r (λ (i : ℕ). natAbs (word ws (at + i))) ≡ weightSum ws j
-    unfolding weightSum
-    sum-are = rw b (sum-same (branches ws j) _ _ (λ i h. ap natAbs (weight i)))
+module _ (ws : Words) (at r d : ℕ) where
+  abbrev size : ℕ → ℕ
+  size i = natAbs (word ws (at + i))
 
-    -- question 12 by what was weighed
-    module _ (q : Weighed) (w : WeighedAs ws at r (z .d) q) where
-      pub weights-no : q .ok ≡ false → false ≡ weightsAllowed ws n j
-      unfolding weightsAllowed
-      weights-no e = rw (sym weights-are, sym (w .ok-is), e)
+  abbrev each : ℕ → Bool
+  each i = inside (pos 1) (pos d) (word ws (at + i))
 
-      pub weights-last : q .ok ≡ true → n ≡ z .h → true ≡ weightsAllowed ws n j
-      unfolding weightsAllowed
-      weights-last e l = rw (sym weights-are, sym (w .ok-is), e, eq-eqb n (horizon ws) (l ∙ are .h-is))
+  -- no weight is above the sum
+  weights-fit : weightsFit ws at r d ≡ (all r each && leb (sumTo r size) d)
+  weights-fit = go (leb (sumTo r size) d) refl
+    where
+      term : (i : ℕ) → i < r → size i ≤ sumTo r size
+      term i h = omega (arith, sum-step i size, sum-mono (i + 1) r size (omega arith))
 
-      pub weights-sum : q .ok ≡ true → (n ≡ z .h → ⊥) → leb (q .sum) (z .d) ≡ weightsAllowed ws n j
-      unfolding weightsAllowed
-      weights-sum e l =
-          rw (sym weights-are, sym (w .ok-is), e, ne-eqb n (horizon ws) (λ k. l (k ∙ sym (are .h-is))), w .sum-is e, sum-are, are .d-is)
+      go : (b : Bool) → leb (sumTo r size) d ≡ b → (all r (λ (i : ℕ). ltZ (pos 0) (word ws (at + i))) && b) ≡ (all r each && b)
+      go true e =
+          ap (λ (b : Bool). b && true)
+          (all-same r (λ (i : ℕ). ltZ (pos 0) (word ws (at + i))) each
+          (λ i h. positive (word ws (at + i)) d (omega (arith, term i h, leb-true (sumTo r size) d e))))
+      go false e = and-right (all r (λ (i : ℕ). ltZ (pos 0) (word ws (at + i)))) ∙ sym (and-right (all r each))
 
--- ---- the number of one action
+module _ (ws : Words) (z : Sizes) (are : SizesAre ws z) (n j : ℕ) (fit : branchesAllowed ws n j ≡ true) (at r : ℕ) (a : at ≡ z .columns + j + z .l + 1)
+    (b : r ≡ branches ws j) where
+  weight : (i : ℕ) → word ws (at + i) ≡ right ws (j + 1 + i)
+  weight i = right-is ws z are (j + 1 + i) (at + i) (omega (arith, a))
 
-module _ (ws : Words) (n j : ℕ) where
-  pub unfit : lineCount ws < lineAfter ws j → branchesAllowed ws n j ≡ false
-  unfolding branchesAllowed
-  unfit h = rw (lt-leb (lineAfter ws j) (lineCount ws) h) (and-right (branchesInside (left ws j) n (horizon ws)))
+  each-is : all r (λ (i : ℕ). inside (pos 1) (pos (z .d)) (word ws (at + i)))
+      ≡ all (branches ws j) (λ (i : ℕ). inside (pos 1) (pos (scale ws)) (right ws (j + 1 + i)))
+  each-is =
+      rw (b, are .d-is) (all-same (branches ws j) _ _ (λ i h. ap (λ (x : ℤ). inside (pos 1) (pos (scale ws)) x) (weight i)))
 
-  pub unbranched : branchesInside (left ws j) n (horizon ws) ≡ false → branchesAllowed ws n j ≡ false
-  unfolding branchesAllowed
-  unbranched e = rw e
+  sum-is : sumTo r (λ (i : ℕ). natAbs (word ws (at + i))) ≡ weightSum ws j
+  unfolding weightSum
+  sum-is = rw b (sum-same (branches ws j) _ _ (λ i h. ap natAbs (weight i)))
 
-  pub fit-both : branchesInside (left ws j) n (horizon ws) ≡ true → lineAfter ws j ≤ lineCount ws → branchesAllowed ws n j ≡ true
-  unfolding branchesAllowed
-  fit-both e h = rw (e, le-leb (lineAfter ws j) (lineCount ws) h)
+  -- without transitions the sum is 0
+  sum-asked : leb (weightSum ws j) (scale ws) ≡ (eqb n (horizon ws) || leb (weightSum ws j) (scale ws))
+  unfolding weightSum
+  sum-asked = go (eqb n (horizon ws)) refl
+    where
+      go : (c : Bool) → eqb n (horizon ws) ≡ c → leb (weightSum ws j) (scale ws) ≡ (c || leb (weightSum ws j) (scale ws))
+      go true e = rw (none-at-last ws n j fit e) (le-leb 0 (scale ws) (omega arith))
+      go false e = refl
 
-  pub nine : branchesAllowed ws n j ≡ false → 9 ≡ actionNumber ws n j
+  pub weights-are : weightsFit ws at r (z .d) ≡ weightsAllowed ws n j
+  unfolding weightsAllowed
+  weights-are = weights-fit ws at r (z .d) ∙ ap₂ _&&_ each-is (ap₂ leb sum-is (are .d-is) ∙ sum-asked)
+
+-- ---- the number of one action that passes question 9
+
+module _ (most : ℕ) (ws : Words) (n j : ℕ) (e : branchesAllowed ws n j ≡ true) where
+  pub ten : costAllowed ws n j ≡ false → 10 ≡ actionNumber most ws n j
   unfolding actionNumber
-  nine e = rw e
+  ten f = rw (e, f)
 
-  module _ (e : branchesAllowed ws n j ≡ true) where
-    pub ten : costAllowed ws n j ≡ false → 10 ≡ actionNumber ws n j
+  module _ (f : costAllowed ws n j ≡ true) where
+    pub eleven : nextsAllowed ws n j ≡ false → 11 ≡ actionNumber most ws n j
     unfolding actionNumber
-    ten f = rw (e, f)
+    eleven g = rw (e, f, g)
 
-    module _ (f : costAllowed ws n j ≡ true) where
-      pub eleven : nextsAllowed ws n j ≡ false → 11 ≡ actionNumber ws n j
+    module _ (g : nextsAllowed ws n j ≡ true) where
+      pub twelve : weightsAllowed ws n j ≡ false → 12 ≡ actionNumber most ws n j
       unfolding actionNumber
-      eleven g = rw (e, f, g)
+      twelve h = rw (e, f, g, h)
 
-      module _ (g : nextsAllowed ws n j ≡ true) where
-        pub twelve : weightsAllowed ws n j ≡ false → 12 ≡ actionNumber ws n j
+      module _ (h : weightsAllowed ws n j ≡ true) where
+        pub thirteen : costUpTo most ws n j ≡ false → 13 ≡ actionNumber most ws n j
         unfolding actionNumber
-        twelve h = rw (e, f, g, h)
+        thirteen k = rw (e, f, g, h, k)
 
-        pub zero-all : weightsAllowed ws n j ≡ true → 0 ≡ actionNumber ws n j
+        pub zero-all : costUpTo most ws n j ≡ true → 0 ≡ actionNumber most ws n j
         unfolding actionNumber
-        zero-all h = rw (e, f, g, h)
-
-pub fit-bound : (ws : Words) (n j : ℕ) → branchesAllowed ws n j ≡ true → lineAfter ws j ≤ lineCount ws
-unfolding branchesAllowed
-fit-bound ws n j e =
-    leb-true (lineAfter ws j) (lineCount ws)
-    (and-true (branchesInside (left ws j) n (horizon ws)) (leb (lineAfter ws j) (lineCount ws)) e .1)
+        zero-all k = rw (e, f, g, h, k)

@@ -5,8 +5,8 @@ use mathlib.Core.Bool.{Bool, true, false, not}
 use Prim.Native.Nat.{ℕ, suc, _+_, _^_, _≤_, _<_}
 use native.Mathlib.Nat.{lt-of-lt-of-le, le-refl, zero-add}
 use native.Mathlib.Omega.{arith}
-use borrow.Author.Tests.{not-true, not-false, ltb-true, ltb-false, le-leb, lt-leb}
-use lib.Dec.{T, leb, ltb, lit≤}
+use borrow.Author.Tests.{not-true, not-false, ltb-true}
+use lib.Dec.{T, ltb, lit≤}
 use lib.IntN.{ℤ, pos, negsuc, natAbs, _-ℤ_}
 use lib.Signed.{mag, leZ, ltZ, nonNeg}
 use mir.Syntax.{Width, w32, w64}
@@ -58,7 +58,7 @@ module _ {w : Width} {lo hi x : ℤ} (l : SFits w lo) (h : SFits w hi) (f : SFit
   pub inside-no : leZ (toZ w (ofZ w lo)) (toZ w (ofZ w x)) ≡ false → leZ (toZ w (ofZ w lo)) (toZ w (ofZ w x)) ≡ inside lo hi x
   inside-no e = rw (toZ-ofZ l, toZ-ofZ f, rw (toZ-ofZ l, toZ-ofZ f) at e)
 
--- ---- a word below n, and one from 1 to n, by its size
+-- ---- a word below n, by its size
 
 pub below-neg : (z : ℤ) (n : ℕ) → ltZ (negsuc 0) z ≡ false → true ≡ ltZ z (pos n)
 below-neg (pos m) n e = let z : _≡_ {A = ℕ} 0 1 = cc in absurd (omega arith)
@@ -67,11 +67,3 @@ below-neg (negsuc m) n e = refl
 pub below-size : (z : ℤ) (n : ℕ) → ltZ (negsuc 0) z ≡ true → ltb (natAbs z) n ≡ ltZ z (pos n)
 below-size (pos m) n e = refl
 below-size (negsuc m) n e = absurd (omega (arith, ltb-true m 0 e))
-
-pub to-neg : (z : ℤ) (n : ℕ) → ltZ (pos 0) z ≡ false → false ≡ inside (pos 1) (pos n) z
-to-neg (pos m) n e = rw (lt-leb 1 m (omega (arith, ltb-false 0 m e)))
-to-neg (negsuc m) n e = refl
-
-pub to-size : (z : ℤ) (n : ℕ) → ltZ (pos 0) z ≡ true → leb (natAbs z) n ≡ inside (pos 1) (pos n) z
-to-size (pos m) n e = rw (le-leb 1 m (omega (arith, ltb-true 0 m e)))
-to-size (negsuc m) n e = let z : _≡_ {A = ℕ} 0 1 = cc in absurd (omega arith)

@@ -118,17 +118,6 @@ pub fn word_below(b: &[i32], i: usize, n: usize) -> bool
     size_at(b, i) < n
 }
 
-// Is word i from 1 to n?
-pub fn word_to(b: &[i32], i: usize, n: usize) -> bool
-    requires { ⌜ i < length (now b) ⌝ }
-    ensures { λ r. ⌜ r ≡ inside (pos 1) (pos n) (word (now (b .entry)) i) ⌝ }
-{
-    if !word_above(b, i, 0) {
-        return false;
-    }
-    size_at(b, i) <= n
-}
-
 // S, the number of states: the sum of at most nine counts, none above 2^31.
 fn states(b: &[i32], h: usize) -> usize
     requires { ⌜ (h ≡ horizon (now b)) × (h ≤ 8) × (4 + h ≤ length (now b)) ⌝ }

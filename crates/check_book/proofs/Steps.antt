@@ -18,17 +18,25 @@ lowest-both (suc x) zero h k = absurd (k refl)
 lowest-both (suc x) (suc y) h k = refl
 
 -- the lower number of two runs of actions is that of both
-pub code-both : (a b c x y z : Bool) → lowest (code true a b c) (code true x y z) ≡ code true (a && x) (b && y) (c && z)
-code-both true true true x y z = refl
-code-both true true false true true true = refl
-code-both true true false true true false = refl
-code-both true true false true false z = refl
-code-both true true false false y z = refl
-code-both true false c true true true = refl
-code-both true false c true true false = refl
-code-both true false c true false z = refl
-code-both true false c false y z = refl
-code-both false b c true true true = refl
-code-both false b c true true false = refl
-code-both false b c true false z = refl
-code-both false b c false y z = refl
+pub code-both : (a b c d x y z w : Bool) → lowest (code true a b c d) (code true x y z w) ≡ code true (a && x) (b && y) (c && z) (d && w)
+code-both true true true true x y z w = refl
+code-both true true true false true true true true = refl
+code-both true true true false true true true false = refl
+code-both true true true false true true false w = refl
+code-both true true true false true false z w = refl
+code-both true true true false false y z w = refl
+code-both true true false d true true true true = refl
+code-both true true false d true true true false = refl
+code-both true true false d true true false w = refl
+code-both true true false d true false z w = refl
+code-both true true false d false y z w = refl
+code-both true false c d true true true true = refl
+code-both true false c d true true true false = refl
+code-both true false c d true true false w = refl
+code-both true false c d true false z w = refl
+code-both true false c d false y z w = refl
+code-both false b c d true true true true = refl
+code-both false b c d true true true false = refl
+code-both false b c d true true false w = refl
+code-both false b c d true false z w = refl
+code-both false b c d false y z w = refl

@@ -1,143 +1,152 @@
--- Each early return is the first question that the action fails: those before it were passed on the way.
+-- Each return is the first question that the action fails: those before it were passed on the way.
 -- Assumes nothing.
 use mathlib.Core.Path.{_≡_, sym, _∙_}
 use mathlib.Core.Bool.{true}
-use Prim.Native.Nat.{_≤_}
+use Prim.Native.Nat.{ℕ, _+_, _-_, _≤_}
 use native.Mathlib.Omega.{arith}
-use borrow.Author.Tests.{not-true, not-false}
-use Rattle.model.specs.Model.{Words, left, lineCount, branches, lineAfter}
-use Rattle.model.specs.Questions.{branchesAllowed, costAllowed}
+use borrow.Author.Tests.{le-leb, lt-leb}
+use lib.Dec.{leb}
+use lib.ListN.{length}
+use Rattle.model.specs.Model.{Words, lineAfter}
+use Rattle.model.specs.Questions.{costAllowed, nextsAllowed, weightsAllowed}
 use Rattle.book.proofs.Words.{no, yes′}
-use Rattle.book.proofs.Columns.{branches-are}
-use Rattle.actions.proofs.Steps.{inside-is, cost-is, unfit, unbranched, fit-both, nine, ten, eleven, twelve, zero-all}
-use borrow.Author.Needs.{needs}
+use Rattle.actions.specs.Action.{costUpTo}
+use Rattle.actions.proofs.Steps.{fit-bound, cost-asked, bound-asked, nexts-are, weights-are, ten, eleven, twelve, thirteen, zero-all}
 use Rattle.actions.proofs.action_number.Statement.{statement}
 use Rattle.actions.proofs.action_number.Tie as tie
 
-abbrev ws : tie.Start → Words
-ws s = s .args .b .now
+module _ (s : tie.Start) where
+  abbrev ws : Words
+  ws = s .args .b .now
 
--- r, as it was read
-r-is : (c : tie.After-size-at) →
-    c .size-at .result ≡ branches (ws (c .before .before .before .before .before)) (c .before .before .before .before .before .args .j)
-r-is c =
-    let s = c .before .before .before .before .before in
-    branches-are (ws s) (s .args .z) (s .pre .1) (s .args .j) (c .size-at .result) (c .size-at .ensures .is)
+  abbrev n : ℕ
+  n = s .args .q .n
 
--- past question 9
-module _ (c : tie.Else3) where
-  abbrev s : tie.Start
-  s = c .before .before .before .before .before .before
+  -- its line
+  abbrev j : ℕ
+  j = s .args .at - s .args .z .columns
 
-  bound : lineAfter (ws s) (s .args .j) ≤ lineCount (ws s)
+  line : s .args .at ≡ s .args .z .columns + j
+  line = omega (arith, s .pre .2 .from)
+
+  -- its lines fit both columns
+  bound : s .args .at + s .args .z .l + 1 + s .args .r ≤ length ws
   unfolding lineAfter
-  bound = omega (arith, r-is (c .before))
+  bound =
+      let a = s .pre .1 in
+      omega (arith, line, fit-bound ws n j (s .pre .2 .fit), s .pre .2 .r-is, a .columns-is, a .l-is, s .pre .0 .exact)
 
-  fit : branchesAllowed (ws s) (s .args .n) (s .args .j) ≡ true
-  fit =
-      fit-both (ws s) (s .args .n) (s .args .j)
-      (inside-is (ws s) (s .args .z) (s .pre .1) (s .args .j) (s .args .n)
-      ∙ yes′ (c .before .before .before .branches-allowed .ensures) (c .before .before .if2 .left))
-      bound
+  long : length ws ≤ 4172
+  long = omega (arith, s .pre .0 .exact, s .pre .0 .h-high, s .pre .0 .s-high, s .pre .0 .l-high)
 
--- question 10
-cost : (c : tie.After-cost-allowed) → costAllowed (ws (s (c .before))) (s (c .before) .args .n) (s (c .before) .args .j) ≡ c .cost-allowed .result
-cost c =
-    let t = s (c .before) in
-    cost-is (ws t) (t .args .z) (t .pre .1) (t .args .j) (t .args .n) ∙ sym (c .cost-allowed .ensures)
+add-open-size : tie.Need-add-open-size
+add-open-size c = omega (arith, bound c, long c)
 
-cost-yes : (c : tie.Else4) → costAllowed (ws (s (c .before .before))) (s (c .before .before) .args .n) (s (c .before .before) .args .j) ≡ true
-cost-yes c = cost (c .before) ∙ not-false _ (c .if4 .left)
+open-size-requires : tie.Need-open-size-requires
+open-size-requires c κs = omega (arith, bound c)
+
+-- the questions 10 and 13, by the size that was read
+module _ (c : tie.After-open-size) where
+  abbrev s : tie.Start
+  s = c .before
+
+  abbrev size : ℕ
+  size = c .open-size .result
+
+  at-cost : s .args .at + s .args .z .l ≡ s .args .z .columns + j s + s .args .z .l
+  at-cost = omega (arith, line s)
+
+  cost : leb size 100000 ≡ costAllowed (ws s) (n s) (j s)
+  cost = cost-asked (ws s) (s .args .z) (s .pre .1) (n s) (j s) _ size at-cost (c .open-size .ensures)
+
+  bounded : leb size (s .args .q .most) ≡ costUpTo (s .args .q .most) (ws s) (n s) (j s)
+  bounded = bound-asked (ws s) (s .args .z) (s .pre .1) (n s) (j s) _ size at-cost (c .open-size .ensures) (s .args .q .most)
+
+cost-yes : (c : tie.Else1) → costAllowed (ws (s (c .before))) (n (s (c .before))) (j (s (c .before))) ≡ true
+cost-yes c = sym (cost (c .before)) ∙ le-leb (size (c .before)) 100000 (c .if1 .left)
+
+-- 11
+nexts : (c : tie.After-nexts-allowed) →
+    let s = c .before .before .before in
+    c .nexts-allowed .result ≡ nextsAllowed (ws s) (n s) (j s)
+nexts c =
+    let s = c .before .before .before in
+    c .nexts-allowed .ensures
+    ∙ nexts-are (ws s) (s .args .z) (s .pre .1) (n s) (j s) _ _ _ (omega (arith, line s)) (s .pre .2 .r-is) (s .pre .2 .width-is)
+
+-- 12
+weights : (c : tie.After-weights-allowed) →
+    let s = c .before .before .before .before .before in
+    c .weights-allowed .result ≡ weightsAllowed (ws s) (n s) (j s)
+weights c =
+    let s = c .before .before .before .before .before in
+    c .weights-allowed .ensures
+    ∙ weights-are (ws s) (s .args .z) (s .pre .1) (n s) (j s) (s .pre .2 .fit) _ _ (omega (arith, line s)) (s .pre .2 .r-is)
 
 returns : tie.Need-returns
-unfolding lineAfter
 returns c =
-    let s = c .before in
-    nine (ws s) (s .args .n) (s .args .j) (unfit (ws s) (s .args .n) (s .args .j) (omega arith))
+    let s = c .before .before in
+    ten (s .args .q .most) (ws s) (n s) (j s) (s .pre .2 .fit) (sym (cost (c .before)) ∙ lt-leb (size (c .before)) 100000 (c .if1 .taken))
 
-add-at : tie.Need-add-at
-add-at c = search needs
+add-nexts-allowed : tie.Need-add-nexts-allowed
+add-nexts-allowed c = omega (arith, bound (c .before .before), long (c .before .before))
 
-branches-allowed-requires : tie.Need-branches-allowed-requires
-branches-allowed-requires c κs = search needs
+nexts-allowed-requires : tie.Need-nexts-allowed-requires
+nexts-allowed-requires c κs = (omega (arith, bound (c .before .before)), long (c .before .before))
 
 returns-2 : tie.Need-returns-2
 returns-2 c =
-    let s = c .before .before .before .before in
-    nine (ws s) (s .args .n) (s .args .j) (unbranched (ws s) (s .args .n) (s .args .j) (inside-is (ws s) (s .args .z) (s .pre .1) (s .args .j) (s .args .n) ∙ no (c .before .branches-allowed .ensures) (c .if2 .taken)))
+    let e = c .before .before in
+    let s = e .before .before in
+    eleven (s .args .q .most) (ws s) (n s) (j s) (s .pre .2 .fit) (cost-yes e) (no (nexts (c .before)) (c .if2 .taken))
 
-add-if3 : tie.Need-add-if3
-add-if3 c = search needs
+add-weights-allowed : tie.Need-add-weights-allowed
+add-weights-allowed c = let s = c .before .before .before .before in omega (arith, bound s, long s)
 
-size-at-requires : tie.Need-size-at-requires
-size-at-requires c κs = search needs
+add-weights-allowed-2 : tie.Need-add-weights-allowed-2
+add-weights-allowed-2 c = let s = c .before .before .before .before in omega (arith, bound s, long s)
 
-add-if3-2 : tie.Need-add-if3-2
-add-if3-2 c = search needs
+weights-allowed-requires : tie.Need-weights-allowed-requires
+weights-allowed-requires c κs = let s = c .before .before .before .before in (bound s, long s)
 
 returns-3 : tie.Need-returns-3
-unfolding lineAfter
 returns-3 c =
-    let s = c .before .before .before .before .before .before in
-    nine (ws s) (s .args .n) (s .args .j) (unfit (ws s) (s .args .n) (s .args .j) (omega (arith, r-is (c .before))))
-
-add-cost-allowed : tie.Need-add-cost-allowed
-add-cost-allowed c = search needs
-
-cost-allowed-requires : tie.Need-cost-allowed-requires
-cost-allowed-requires c κs = search needs
+    let f = c .before .before in
+    let e = f .before .before in
+    let s = e .before .before in
+    twelve (s .args .q .most) (ws s) (n s) (j s) (s .pre .2 .fit) (cost-yes e) (yes′ (nexts (f .before)) (f .if2 .left)) (no (weights (c .before)) (c .if3 .taken))
 
 returns-4 : tie.Need-returns-4
 returns-4 c =
-    let s = c .before .before .before .before .before .before .before .before in
-    ten (ws s) (s .args .n) (s .args .j) (fit (c .before .before)) (cost (c .before) ∙ not-true _ (c .if4 .taken))
-
-nexts-allowed-requires : tie.Need-nexts-allowed-requires
-nexts-allowed-requires c κs =
-    let s = c .before .before .before .before .before .before .before .before in
-    (s .pre .0, s .pre .1, s .pre .2, bound (c .before .before))
+    let g = c .before .before in
+    let f = g .before .before in
+    let e = f .before .before in
+    let s = e .before .before in
+    thirteen (s .args .q .most) (ws s) (n s) (j s) (s .pre .2 .fit) (cost-yes e) (yes′ (nexts (f .before)) (f .if2 .left))
+    (yes′ (weights (g .before)) (g .if3 .left)) (sym (bounded (e .before)) ∙ lt-leb (size (e .before)) (s .args .q .most) (c .if4 .taken))
 
 returns-5 : tie.Need-returns-5
 returns-5 c =
-    let s = c .before .before .before .before .before .before .before .before .before .before in
-    eleven (ws s) (s .args .n) (s .args .j) (fit (c .before .before .before .before)) (cost-yes (c .before .before)) (no (c .before .nexts-allowed .ensures) (c .if5 .taken))
-
-weights-allowed-requires : tie.Need-weights-allowed-requires
-weights-allowed-requires c κs =
-    let s = c .before .before .before .before .before .before .before .before .before .before in
-    (s .pre .0, s .pre .1, bound (c .before .before .before .before))
-
-returns-6 : tie.Need-returns-6
-returns-6 c =
-    let d = c .before .before .before .before in
-    let s = d .before .before .before .before .before .before .before .before in
-    twelve (ws s) (s .args .n) (s .args .j) (fit (d .before .before)) (cost-yes d) (yes′ (c .before .before .before .nexts-allowed .ensures) (c .before .before .if5 .left))
-    (no (c .before .weights-allowed .ensures) (c .if6 .taken))
-
-returns-7 : tie.Need-returns-7
-returns-7 c =
-    let d = c .before .before .before .before in
-    let s = d .before .before .before .before .before .before .before .before in
-    zero-all (ws s) (s .args .n) (s .args .j) (fit (d .before .before)) (cost-yes d) (yes′ (c .before .before .before .nexts-allowed .ensures) (c .before .before .if5 .left))
-    (yes′ (c .before .weights-allowed .ensures) (c .if6 .left))
+    let g = c .before .before in
+    let f = g .before .before in
+    let e = f .before .before in
+    let s = e .before .before in
+    zero-all (s .args .q .most) (ws s) (n s) (j s) (s .pre .2 .fit) (cost-yes e) (yes′ (nexts (f .before)) (f .if2 .left))
+    (yes′ (weights (g .before)) (g .if3 .left)) (sym (bounded (e .before)) ∙ le-leb (size (e .before)) (s .args .q .most) (c .if4 .left))
 
 pub action-number-spec : {M : Type 1} → statement M
 action-number-spec =
     tie.close
     (tie.spec
+    add-open-size
+    open-size-requires
     returns
-    add-at
-    branches-allowed-requires
-    returns-2
-    add-if3
-    size-at-requires
-    add-if3-2
-    returns-3
-    add-cost-allowed
-    cost-allowed-requires
-    returns-4
+    add-nexts-allowed
     nexts-allowed-requires
-    returns-5
+    returns-2
+    add-weights-allowed
+    add-weights-allowed-2
     weights-allowed-requires
-    returns-6
-    returns-7)
+    returns-3
+    returns-4
+    returns-5)

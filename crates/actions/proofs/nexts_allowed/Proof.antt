@@ -1,56 +1,66 @@
--- The words read are those of the left column.
+-- The first and the last next state settle what their order does not.
 -- Assumes nothing.
-use mathlib.Core.Path.{_≡_, refl, _∙_}
-use native.Mathlib.Omega.{arith}
-use Rattle.model.specs.Model.{branches, lineAfter}
-use Rattle.book.proofs.Columns.{branches-are, size-is}
-use Rattle.actions.proofs.Steps.{nexts-are}
+use mathlib.Core.Path.{sym, _∙_}
+use Rattle.book.proofs.Words.{no, yes′}
+use Rattle.actions.proofs.Steps.{first-fails, last-fails, all-rise}
 use borrow.Author.Needs.{needs}
 use Rattle.actions.proofs.nexts_allowed.Statement.{statement}
 use Rattle.actions.proofs.nexts_allowed.Tie as tie
 
-add-at : tie.Need-add-at
-unfolding lineAfter
-add-at c = omega arith
+returns : tie.Need-returns
+returns c = search needs
 
-size-at-requires : tie.Need-size-at-requires
-unfolding lineAfter
-size-at-requires c κs = omega arith
+word-above-requires : tie.Need-word-above-requires
+word-above-requires c κs = search needs
 
-add-size-at : tie.Need-add-size-at
-add-size-at c = search needs
+returns-2 : tie.Need-returns-2
+returns-2 c =
+    let e = c .before .before in
+    let s = e .before .args in
+    sym (first-fails (s .b .now) (s .at) (s .width) (s .r) (e .if1 .left) (no (c .before .word-above .ensures) (c .if2 .taken)))
 
-size-at-requires-2 : tie.Need-size-at-requires-2
-size-at-requires-2 c κs = search needs
+sub-word-below : tie.Need-sub-word-below
+sub-word-below c = search needs
 
-r-is : (c : tie.After-size-at) → c .size-at .result ≡ branches (c .before .before .args .b .now) (c .before .before .args .j)
-r-is c =
-    let s = c .before .before in
-    branches-are (s .args .b .now) (s .args .z) (s .pre .1) (s .args .j) (c .size-at .result) (c .size-at .ensures .is)
+add-word-below : tie.Need-add-word-below
+add-word-below c = search needs
 
-add-nexts-rise : tie.Need-add-nexts-rise
-unfolding lineAfter
-add-nexts-rise c = omega arith
+word-below-requires : tie.Need-word-below-requires
+word-below-requires c κs = search needs
+
+returns-3 : tie.Need-returns-3
+returns-3 c =
+    let e = c .before .before .before .before in
+    let s = e .before .args in
+    sym (last-fails (s .b .now) (s .at) (s .width) (s .r) (e .if1 .left) (no (c .before .word-below .ensures) (c .if3 .taken)))
+
+sub-nexts-rise : tie.Need-sub-nexts-rise
+sub-nexts-rise c = search needs
 
 nexts-rise-requires : tie.Need-nexts-rise-requires
-unfolding lineAfter
-nexts-rise-requires c κs = omega (arith, r-is (c .before))
+nexts-rise-requires c κs = search needs
 
-returns : tie.Need-returns
-returns c =
-    let s = c .before .before .before .before in
+returns-4 : tie.Need-returns-4
+returns-4 c =
+    let f = c .before in
+    let g = f .before .before in
+    let e = g .before .before in
+    let s = e .before .args in
     c .nexts-rise .ensures
-    ∙ nexts-are (s .args .b .now) (s .args .z) (s .pre .1) (s .args .n) (s .args .j) _ _ _ refl (r-is (c .before .before))
-    (size-is (s .args .b .now) (s .args .z) (s .pre .1) (s .args .j) (s .args .n) _ (c .before .size-at2 .ensures .is))
+    ∙ all-rise (s .b .now) (s .at) (s .width) (s .r) (e .if1 .left) (yes′ (g .before .word-above .ensures) (g .if2 .left))
+    (yes′ (f .before .word-below .ensures) (f .if3 .left))
 
 pub nexts-allowed-spec : {M : Type 1} → statement M
 nexts-allowed-spec =
     tie.close
     (tie.spec
-    add-at
-    size-at-requires
-    add-size-at
-    size-at-requires-2
-    add-nexts-rise
+    returns
+    word-above-requires
+    returns-2
+    sub-word-below
+    add-word-below
+    word-below-requires
+    returns-3
+    sub-nexts-rise
     nexts-rise-requires
-    returns)
+    returns-4)

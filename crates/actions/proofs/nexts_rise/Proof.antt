@@ -1,4 +1,4 @@
--- Every transition passed so far is allowed.
+-- Every word passed so far exceeds the one before it.
 -- Assumes nothing.
 use mathlib.Core.Path.{_≡_, refl, sym}
 use mathlib.Core.Bool.{true}
@@ -7,30 +7,37 @@ use native.Mathlib.Omega.{arith}
 use Rattle.model.specs.Lists.{all}
 use Rattle.questions.specs.Ranges.{all-fails, all-more}
 use Rattle.book.proofs.Words.{no, yes′}
-use Rattle.actions.specs.Action.{nextAllowed}
+use Rattle.actions.specs.Action.{risesAt}
 use borrow.Author.Needs.{needs}
 use Rattle.actions.proofs.nexts_rise.Statement.{statement}
 use Rattle.actions.proofs.nexts_rise.Tie as tie
 
 abbrev Inv-loop : tie.InvT-loop
-Inv-loop b at r width i₀ i = (i ≤ r) × (all i (nextAllowed b at width) ≡ true)
+Inv-loop b at n i₀ i = (i ≤ n) × (all i (risesAt b at) ≡ true)
 
 abbrev μ-loop : tie.MeasureT-loop
-μ-loop b at r width i₀ i = r - i
+μ-loop b at n i₀ i = n - i
 
 loop-holds : tie.Need-loop-holds Inv-loop μ-loop
 loop-holds c = (omega arith, refl)
 
-next-allowed-requires : tie.Need-next-allowed-requires Inv-loop μ-loop
-next-allowed-requires c κs = search needs
+add-words-rise : tie.Need-add-words-rise Inv-loop μ-loop
+add-words-rise c = search needs
+
+add-words-rise-2 : tie.Need-add-words-rise-2 Inv-loop μ-loop
+add-words-rise-2 c = search needs
+
+add-words-rise-3 : tie.Need-add-words-rise-3 Inv-loop μ-loop
+add-words-rise-3 c = search needs
+
+words-rise-requires : tie.Need-words-rise-requires Inv-loop μ-loop
+words-rise-requires c κs = search needs
 
 returns : tie.Need-returns Inv-loop μ-loop
 returns c =
     let t = c .before .before .before in
     let s = t .before .args in
-    sym
-    (all-fails (s .r) (nextAllowed (s .b .now) (s .at) (s .width)) (t .loop .i) (omega arith)
-    (no (c .before .next-allowed .ensures) (c .if1 .taken)))
+    sym (all-fails (s .n) (risesAt (s .b .now) (s .at)) (t .loop .i) (omega arith) (no (c .before .words-rise .ensures) (c .if1 .taken)))
 
 add-i : tie.Need-add-i Inv-loop μ-loop
 add-i c = search needs
@@ -43,13 +50,12 @@ loop-again c =
     let t = c .before .before .before in
     let s = t .before .args in (
       omega arith,
-      all-more (t .loop .i) (nextAllowed (s .b .now) (s .at) (s .width)) (t .loop .inv .1)
-          (yes′ (c .before .next-allowed .ensures) (c .if1 .left)),
+      all-more (t .loop .i) (risesAt (s .b .now) (s .at)) (t .loop .inv .1) (yes′ (c .before .words-rise .ensures) (c .if1 .left)),
     )
 
 returns-2 : tie.Need-returns-2 Inv-loop μ-loop
 returns-2 c =
-    let e : c .before .loop .i ≡ c .before .before .args .r = omega arith in
+    let e : c .before .loop .i ≡ c .before .before .args .n = omega arith in
     sym (rw e at (c .before .loop .inv .1))
 
 pub nexts-rise-spec : {M : Type 1} → statement M
@@ -59,7 +65,10 @@ nexts-rise-spec =
     Inv-loop
     μ-loop
     loop-holds
-    next-allowed-requires
+    add-words-rise
+    add-words-rise-2
+    add-words-rise-3
+    words-rise-requires
     returns
     add-i
     loop-less

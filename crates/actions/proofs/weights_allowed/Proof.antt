@@ -1,66 +1,90 @@
--- The words read are those of the right column.
+-- Every weight passed so far is above 0, and sum is their sum.
 -- Assumes nothing.
-use mathlib.Core.Path.{_≡_, refl}
+use mathlib.Core.Path.{_≡_, refl, sym}
+use mathlib.Core.Bool.{Bool, true}
+use Prim.Native.Nat.{ℕ, _+_, _*_, _-_, _≤_}
 use native.Mathlib.Omega.{arith}
-use borrow.Author.Tests.{not-true, not-false}
-use Rattle.model.specs.Model.{branches, lineAfter}
-use Rattle.book.proofs.Columns.{branches-are}
-use Rattle.actions.proofs.Steps.{weights-no, weights-last, weights-sum}
+use lib.IntN.{pos, natAbs}
+use lib.Signed.{ltZ}
+use Rattle.model.specs.Lists.{all, sumTo}
+use Rattle.model.specs.Model.{Words, word}
+use Rattle.questions.specs.Ranges.{all-fails, all-more, sum-step}
+use Rattle.book.proofs.Words.{no, yes′}
+use borrow.Author.Needs.{needs}
 use Rattle.actions.proofs.weights_allowed.Statement.{statement}
 use Rattle.actions.proofs.weights_allowed.Tie as tie
 
-add-at : tie.Need-add-at
-unfolding lineAfter
-add-at c = omega arith
+abbrev above : Words → ℕ → ℕ → Bool
+above b at k = ltZ (pos 0) (word b (at + k))
 
-size-at-requires : tie.Need-size-at-requires
-unfolding lineAfter
-size-at-requires c κs = omega arith
+abbrev Inv-loop : tie.InvT-loop
+Inv-loop b at r d sum₀ i₀ sum i =
+    (i ≤ r) × (all i (above b at) ≡ true) × (sum ≡ sumTo i (λ (k : ℕ). natAbs (word b (at + k)))) × (sum ≤ i * 2147483648)
 
-r-is : (c : tie.After-size-at) → c .size-at .result ≡ branches (c .before .before .args .b .now) (c .before .before .args .j)
-r-is c =
-    let s = c .before .before in
-    branches-are (s .args .b .now) (s .args .z) (s .pre .1) (s .args .j) (c .size-at .result) (c .size-at .ensures .is)
+abbrev μ-loop : tie.MeasureT-loop
+μ-loop b at r d sum₀ i₀ sum i = r - i
 
-add-weigh : tie.Need-add-weigh
-unfolding lineAfter
-add-weigh c = omega arith
+loop-holds : tie.Need-loop-holds Inv-loop μ-loop
+loop-holds c = (omega arith, refl, refl, omega arith)
 
-add-weigh-2 : tie.Need-add-weigh-2
-unfolding lineAfter
-add-weigh-2 c = omega arith
+add-word-above : tie.Need-add-word-above Inv-loop μ-loop
+add-word-above c = search needs
 
-weigh-requires : tie.Need-weigh-requires
-unfolding lineAfter
-weigh-requires c κs = omega (arith, r-is (c .before))
+word-above-requires : tie.Need-word-above-requires Inv-loop μ-loop
+word-above-requires c κs = search needs
 
-returns : tie.Need-returns
+returns : tie.Need-returns Inv-loop μ-loop
 returns c =
-    let w = c .before .before in
-    let s = w .before .before .before .before in
-    weights-no (s .args .b .now) (s .args .z) (s .pre .1) (s .args .n) (s .args .j) _ _ refl (r-is (w .before .before)) (w .weigh .result) (w .weigh .ensures) (not-true _ (c .if1 .taken))
+    let t = c .before .before .before in
+    let s = t .before .args in
+    sym (rw (all-fails (s .r) (above (s .b .now) (s .at)) (t .loop .i) (omega arith) (no (c .before .word-above .ensures) (c .if1 .taken))))
 
-returns-2 : tie.Need-returns-2
+add-size-at : tie.Need-add-size-at Inv-loop μ-loop
+add-size-at c = search needs
+
+size-at-requires : tie.Need-size-at-requires Inv-loop μ-loop
+size-at-requires c κs = search needs
+
+add-sum : tie.Need-add-sum Inv-loop μ-loop
+add-sum c = omega (arith, c .size-at .ensures .small)
+
+add-i : tie.Need-add-i Inv-loop μ-loop
+add-i c = search needs
+
+loop-less : tie.Need-loop-less Inv-loop μ-loop
+loop-less c = search needs
+
+loop-again : tie.Need-loop-again Inv-loop μ-loop
+loop-again c =
+    let u = c .before in
+    let t = u .before .before .before in
+    let s = t .before .args in (
+      omega arith,
+      all-more (t .loop .i) (above (s .b .now) (s .at)) (t .loop .inv .1) (yes′ (u .before .word-above .ensures) (u .if1 .left)),
+      rw (sum-step (t .loop .i) (λ (k : ℕ). natAbs (word (s .b .now) (s .at + k))), t .loop .inv .2, c .size-at .ensures .is),
+      omega (arith, c .size-at .ensures .small),
+    )
+
+returns-2 : tie.Need-returns-2 Inv-loop μ-loop
 returns-2 c =
-    let w = c .before .before .before .before in
-    let s = w .before .before .before .before in
-    weights-last (s .args .b .now) (s .args .z) (s .pre .1) (s .args .n) (s .args .j) _ _ refl (r-is (w .before .before)) (w .weigh .result) (w .weigh .ensures) (not-false _ (c .before .before .if1 .left)) (c .if2 .taken)
-
-returns-3 : tie.Need-returns-3
-returns-3 c =
-    let w = c .before .before .before .before in
-    let s = w .before .before .before .before in
-    weights-sum (s .args .b .now) (s .args .z) (s .pre .1) (s .args .n) (s .args .j) _ _ refl (r-is (w .before .before)) (w .weigh .result) (w .weigh .ensures) (not-false _ (c .before .before .if1 .left)) (c .if2 .left)
+    let l = c .before .loop in
+    let e : l .i ≡ c .before .before .args .r = omega arith in
+    rw (rw e at (l .inv .1), sym (rw e at (l .inv .2)))
 
 pub weights-allowed-spec : {M : Type 1} → statement M
 weights-allowed-spec =
     tie.close
     (tie.spec
-    add-at
-    size-at-requires
-    add-weigh
-    add-weigh-2
-    weigh-requires
+    Inv-loop
+    μ-loop
+    loop-holds
+    add-word-above
+    word-above-requires
     returns
-    returns-2
-    returns-3)
+    add-size-at
+    size-at-requires
+    add-sum
+    add-i
+    loop-less
+    loop-again
+    returns-2)

@@ -1,12 +1,12 @@
 -- The unit is d^h × (h + 1), which is at least 1 and fits.
 -- Assumes nothing.
 use mathlib.Core.Path.{_≡_}
-use Prim.Native.Nat.{ℕ, _+_, _*_, _^_, _≤_}
+use Prim.Native.Nat.{ℕ, _^_, _≤_}
 use native.Mathlib.Omega.{arith}
-use Rattle.check_book.proofs.Bound.{unit-high, unit-low, by-division}
+use Rattle.check_book.proofs.Bound.{unit-high, unit-low}
 use borrow.Author.Needs.{needs}
-use Rattle.check_book.proofs.costs_bounded.Statement.{statement}
-use Rattle.check_book.proofs.costs_bounded.Tie as tie
+use Rattle.check_book.proofs.cost_limit.Statement.{statement}
+use Rattle.check_book.proofs.cost_limit.Tie as tie
 
 raised-requires : tie.Need-raised-requires
 raised-requires c κs = search needs
@@ -34,10 +34,7 @@ div-result : tie.Need-div-result
 div-result c = rw (raised c) (unit-low (d c) (h c) (pre c .0) (pre c .1) (pre c .2))
 
 returns : tie.Need-returns
-returns c =
-    rw (raised c)
-    (by-division (d c ^ h c * (h c + 1)) (c .before .args .largest) 4000000000000000000
-    (unit-low (d c) (h c) (pre c .0) (pre c .1) (pre c .2)))
+returns c = rw (raised c)
 
-pub costs-bounded-spec : {M : Type 1} → statement M
-costs-bounded-spec = tie.close (tie.spec raised-requires add-unit mul-unit div-result returns)
+pub cost-limit-spec : {M : Type 1} → statement M
+cost-limit-spec = tie.close (tie.spec raised-requires add-unit mul-unit div-result returns)

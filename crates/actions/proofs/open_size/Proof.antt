@@ -2,8 +2,8 @@
 -- Assumes nothing.
 use mathlib.Core.Path.{sym, _∙_}
 use borrow.Author.Needs.{needs}
-use Rattle.check_book.proofs.open_size.Statement.{statement}
-use Rattle.check_book.proofs.open_size.Tie as tie
+use Rattle.actions.proofs.open_size.Statement.{statement}
+use Rattle.actions.proofs.open_size.Tie as tie
 
 is-closed-requires : tie.Need-is-closed-requires
 is-closed-requires c κs = search needs
