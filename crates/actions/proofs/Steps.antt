@@ -3,6 +3,7 @@
 use mathlib.Core.Path.{_≡_, refl, sym, ap, ap₂, _∙_}
 use mathlib.Core.Bool.{Bool, true, false, _&&_, _||_, cond}
 use Prim.Native.Nat.{ℕ, zero, suc, _+_, _-_, _≤_, _<_}
+use native.Mathlib.Numerals.{add-one}
 use native.Mathlib.Omega.{arith}
 use borrow.Author.Tests.{le-leb, leb-true, ltb-true, lt-ltb}
 use lib.IntN.{ℤ, pos, negsuc, natAbs}
@@ -11,11 +12,11 @@ use lib.Dec.{leb, eqb, leb·suc-suc}
 use Rattle.model.specs.Lists.{all, sumTo}
 use Rattle.model.specs.Model.{Words, word, scale, horizon, lineCount, left, right, branches, lineAfter, stageSize, closed}
 use Rattle.model.specs.Questions.{inside, mostBranches, branchesInside, costInside, nextBefore, branchesAllowed, costAllowed, nextsAllowed, weightSum, weightsAllowed, openSize}
-use Rattle.questions.specs.Ranges.{and-true, and-right, all-at, all-yes, all-fails, all-same, sum-same, sum-step, sum-mono, inside-range}
+use Rattle.questions.specs.Ranges.{and-true, and-right, all-at, all-yes, all-same, all-both, sum-same, sum-step, sum-mono, inside-range}
 use Rattle.book.specs.Read.{SizesAre}
 use Rattle.book.specs.declared.Sizes.{Sizes}
 use Rattle.book.proofs.Columns.{left-is, right-is}
-use Rattle.actions.specs.Action.{prevAt, nextAllowed, risesAt, weightsFit, costUpTo, actionNumber}
+use Rattle.actions.specs.Action.{prevAt, nextAbove, nextAllowed, weightsFit, costUpTo, actionNumber}
 
 -- two tests that each follow from the other
 same-test : (a b : Bool) → (a ≡ true → b ≡ true) → (b ≡ true → a ≡ true) → a ≡ b
@@ -100,6 +101,10 @@ module _ (ws : Words) (z : Sizes) (are : SizesAre ws z) (n j at size : ℕ) (a :
 
 -- ---- 11
 
+-- the next state before that of the transition after transition i
+pub prev-step : (ws : Words) (at i : ℕ) → prevAt ws at (i + 1) ≡ word ws (at + i)
+prev-step ws at i = rw add-one
+
 below : (x y : ℤ) (w : ℕ) → ltZ x y ≡ true → ltZ y (pos w) ≡ true → ltZ x (pos w) ≡ true
 below (pos a) (pos b) w e f = lt-ltb a w (omega (arith, ltb-true a b e, ltb-true b w f))
 below (pos a) (negsuc b) w e f = let z : _≡_ {A = ℕ} 0 1 = cc in absurd (omega arith)
@@ -109,45 +114,36 @@ module _ (ws : Words) (at width : ℕ) where
   abbrev next : ℕ → Bool
   next = nextAllowed ws at width
 
-  pub first-fails : (r : ℕ) → (r ≡ 0 → ⊥) → ltZ (negsuc 0) (word ws at) ≡ false → all r next ≡ false
-  first-fails r some e =
-      let k : at + 0 ≡ at = omega arith in
-      all-fails r next 0 (omega arith) (rw (k, e))
+  abbrev low : ℕ → Bool
+  low i = ltZ (word ws (at + i)) (pos width)
 
-  pub last-fails : (r : ℕ) → (r ≡ 0 → ⊥) → ltZ (word ws (at + (r - 1))) (pos width) ≡ false → all r next ≡ false
-  last-fails r some e =
-      all-fails r next (r - 1) (omega arith) (rw e (and-right (ltZ (prevAt ws at (r - 1)) (word ws (at + (r - 1))))))
+  -- next states that rise are below the width if the last is
+  module _ (n : ℕ) (rise : all (suc n) (nextAbove ws at) ≡ true) (last : low n ≡ true) where
+    under : (k i : ℕ) → i + k ≡ n → low i ≡ true
+    under zero i q = let s : i ≡ n = omega arith in rw s last
+    under (suc k) i q =
+        below (word ws (at + i)) (word ws (at + suc i)) width (all-at (suc n) (nextAbove ws at) rise (suc i) (omega arith)) (under k (suc i) (omega arith))
 
-  -- the first is not below 0 and the last is below the width: the rest is their order
-  module _ (n : ℕ) (first : ltZ (negsuc 0) (word ws at) ≡ true) (last : ltZ (word ws (at + n)) (pos width) ≡ true) where
-    above : all n (risesAt ws at) ≡ true → (i : ℕ) → i < suc n → ltZ (prevAt ws at i) (word ws (at + i)) ≡ true
-    above e zero h = let k : at + 0 ≡ at = omega arith in rw k first
-    above e (suc i) h = let k : at + suc i ≡ at + i + 1 = omega arith in rw k (all-at n (risesAt ws at) e i (omega arith))
+  settled : (n : ℕ) → all (suc n) (nextAbove ws at) ≡ true → low n ≡ all (suc n) low
+  settled n rise =
+      same-test (low n) (all (suc n) low) (λ e. all-yes (suc n) low (λ i h. under n rise e (n - i) i (omega arith)))
+      (λ e. all-at (suc n) low e n (omega arith))
 
-    under : all n (risesAt ws at) ≡ true → (k i : ℕ) → i + k ≡ n → ltZ (word ws (at + i)) (pos width) ≡ true
-    under e zero i q = let s : i ≡ n = omega arith in rw s last
-    under e (suc k) i q =
-        let s : at + i + 1 ≡ at + (i + 1) = omega arith in
-        below (word ws (at + i)) (word ws (at + (i + 1))) width (rw s at (all-at n (risesAt ws at) e i (omega arith)))
-        (under e k (i + 1) (omega arith))
-
-    rise : all n (risesAt ws at) ≡ all (suc n) next
-    rise =
-        same-test (all n (risesAt ws at)) (all (suc n) next)
-        (λ e. all-yes (suc n) next (λ i h. rw (above e i h, under e (n - i) i (omega arith))))
-        (λ e. all-yes n (risesAt ws at) (λ i h. one i (all-at (suc n) next e (suc i) (omega arith))))
+  -- together with another test
+  module _ (b : Bool) where
+    pub lines-no : (r : ℕ) → (all r (nextAbove ws at) && b) ≡ false → false ≡ (all r next && b)
+    lines-no r e = rw (all-both r (nextAbove ws at) low) (go (all r (nextAbove ws at)) (all r low) e)
       where
-        one : (i : ℕ) → next (suc i) ≡ true → risesAt ws at i ≡ true
-        one i e =
-            let k : at + i + 1 ≡ at + suc i = omega arith in
-            rw k (and-true (ltZ (word ws (at + i)) (word ws (at + suc i))) (ltZ (word ws (at + suc i)) (pos width)) e .0)
+        go : (x y : Bool) → (x && b) ≡ false → false ≡ (x && y && b)
+        go true y h = rw h (sym (and-right y))
+        go false y h = refl
 
-  pub all-rise : (r : ℕ) → (r ≡ 0 → ⊥) → ltZ (negsuc 0) (word ws at) ≡ true → ltZ (word ws (at + (r - 1))) (pos width) ≡ true
-      → all (r - 1) (risesAt ws at) ≡ all r next
-  all-rise zero some f l = absurd (some refl)
-  all-rise (suc n) some f l =
-      let k : suc n - 1 ≡ n = omega arith in
-      rw k (rise n f (rw k at l))
+    pub lines-last : (r : ℕ) → (r ≡ 0 → ⊥) → (all r (nextAbove ws at) && b) ≡ true → low (r - 1) ≡ (all r next && b)
+    lines-last zero some e = absurd (some refl)
+    lines-last (suc n) some e =
+        let k : suc n - 1 ≡ n = omega arith in
+        let p = and-true (all (suc n) (nextAbove ws at)) b e in
+        rw k (settled n (p .0) ∙ rw (all-both (suc n) (nextAbove ws at) low, p .0, p .1) (sym (and-end (all (suc n) low))))
 
 module _ (ws : Words) (z : Sizes) (are : SizesAre ws z) (n j : ℕ) where
   pub nexts-are : (at r width : ℕ) → at ≡ z .columns + j + 1 → r ≡ branches ws j → width ≡ stageSize ws (n + 1)

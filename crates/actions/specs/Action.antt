@@ -17,12 +17,13 @@ abbrev pub prevAt : Words → ℕ → ℕ → ℤ
 prevAt ws at zero = negsuc 0
 prevAt ws at (suc i) = word ws (at + i)
 
-abbrev pub nextAllowed : Words → ℕ → ℕ → ℕ → Bool
-nextAllowed ws at width i = ltZ (prevAt ws at i) (word ws (at + i)) && ltZ (word ws (at + i)) (pos width)
+-- and transition i's own exceeds it
+abbrev pub nextAbove : Words → ℕ → ℕ → Bool
+nextAbove ws at i = ltZ (prevAt ws at i) (word ws (at + i))
 
--- word `at + i + 1` exceeds the word before it
-abbrev pub risesAt : Words → ℕ → ℕ → Bool
-risesAt ws at i = ltZ (word ws (at + i)) (word ws (at + i + 1))
+-- and is below the width of its stage
+abbrev pub nextAllowed : Words → ℕ → ℕ → ℕ → Bool
+nextAllowed ws at width i = nextAbove ws at i && ltZ (word ws (at + i)) (pos width)
 
 -- r weights from word `at` on are above 0 and add to at most d
 abbrev pub weightsFit : Words → ℕ → ℕ → ℕ → Bool

@@ -1,7 +1,7 @@
 // The questions 9 to 13 of one action.
 use book::Sizes;
 ghost use mathlib.Core.Path.{_≡_};
-ghost use mathlib.Core.Bool.{true, cond};
+ghost use mathlib.Core.Bool.{true, _&&_, cond};
 ghost use Prim.Native.Nat.{_+_, _-_, _<_, _≤_};
 ghost use lib.Dec.{eqb};
 ghost use lib.IntN.{pos};
@@ -11,7 +11,7 @@ ghost use Rattle.model.specs.Model.{word};
 ghost use Rattle.model.specs.Questions.{mostBranches, branchesAllowed, openSize};
 ghost use Rattle.questions.specs.Sizes.{Sized};
 ghost use Rattle.book.specs.Read.{SizesAre};
-ghost use Rattle.actions.specs.Action.{nextAllowed, risesAt, weightsFit, InColumn, ActionRead, actionNumber};
+ghost use Rattle.actions.specs.Action.{nextAbove, nextAllowed, weightsFit, InColumn, ActionRead, actionNumber};
 
 // How many transitions an action of a state before stage H has.
 const FEWEST_BRANCHES: i32 = 0;
@@ -28,54 +28,60 @@ pub struct Limits {
     pub most: usize,
 }
 
-// Does each of the n words after word `at` exceed the one before it?
-fn nexts_rise(b: &[i32], at: usize, n: usize) -> bool
-    requires { ⌜ (at + n < length (now b)) × (length (now b) ≤ 4172) ⌝ }
-    ensures { λ q. ⌜ q ≡ all n (risesAt (now (b .entry)) at) ⌝ }
+// Do the r transitions whose lines begin at word `at` pass 12, and do their next states rise from 0 on? One loop asks both, so that a line is met once.
+fn lines_rise(b: &[i32], at: usize, l: usize, r: usize, d: usize) -> bool
+    requires { ⌜ (at + l + r ≤ length (now b)) × (length (now b) ≤ 4172) ⌝ }
+    ensures { λ q. ⌜ q ≡ (all r (nextAbove (now (b .entry)) at) && weightsFit (now (b .entry)) (at + l) r d) ⌝ }
 {
+    let mut before: i32 = -1;
+    let mut sum: usize = 0;
     let mut i: usize = 0;
-    while i < n {
-        if !book::words_rise(b, at + i, at + i + 1) {
+    while i < r {
+        if !book::word_above(b, at + i, before) {
             return false;
         }
+        if !book::word_above(b, at + l + i, 0) {
+            return false;
+        }
+        before = book::word_at(b, at + i);
+        sum = sum + book::size_at(b, at + l + i);
         i = i + 1;
     }
-    true
+    sum <= d
 }
 
-// 11, of r transitions whose next states begin at word `at`, into a stage of `width` states. Where they rise, the first and the last settle whether all
-// lie within it.
-fn nexts_allowed(b: &[i32], at: usize, r: usize, width: usize) -> bool
-    requires { ⌜ (at + r ≤ length (now b)) × (length (now b) ≤ 4172) ⌝ }
-    ensures { λ q. ⌜ q ≡ all r (nextAllowed (now (b .entry)) at width) ⌝ }
+// 11 and 12, of r transitions whose lines begin at word `at`, into a stage of `width` states. Next states that rise lie within it if the last does.
+fn lines_allowed(b: &[i32], z: Sizes, at: usize, r: usize, width: usize) -> bool
+    requires { ⌜ (at + z .l + r ≤ length (now b)) × (length (now b) ≤ 4172) ⌝ }
+    ensures { λ q. ⌜ q ≡ (all r (nextAllowed (now (b .entry)) at width) && weightsFit (now (b .entry)) (at + z .l) r (z .d)) ⌝ }
 {
     if r == 0 {
         return true;
     }
-    if !book::word_above(b, at, -1) {
+    if !lines_rise(b, at, z.l, r, z.d) {
         return false;
     }
-    if !book::word_below(b, at + (r - 1), width) {
-        return false;
-    }
-    nexts_rise(b, at, r - 1)
+    book::word_below(b, at + (r - 1), width)
 }
 
-// 12, of r weights from word `at` on. None exceeds d where they are above 0 and add to at most d.
-fn weights_allowed(b: &[i32], at: usize, r: usize, d: usize) -> bool
+// 11 by itself, which tells a book's number where one of the two fails.
+fn nexts_allowed(b: &[i32], at: usize, r: usize, width: usize) -> bool
     requires { ⌜ (at + r ≤ length (now b)) × (length (now b) ≤ 4172) ⌝ }
-    ensures { λ q. ⌜ q ≡ weightsFit (now (b .entry)) at r d ⌝ }
+    ensures { λ q. ⌜ q ≡ all r (nextAllowed (now (b .entry)) at width) ⌝ }
 {
-    let mut sum: usize = 0;
+    let mut prev: i32 = -1;
     let mut i: usize = 0;
     while i < r {
-        if !book::word_above(b, at + i, 0) {
+        if !book::word_above(b, at + i, prev) {
             return false;
         }
-        sum = sum + book::size_at(b, at + i);
+        if !book::word_below(b, at + i, width) {
+            return false;
+        }
+        prev = book::word_at(b, at + i);
         i = i + 1;
     }
-    sum <= d
+    true
 }
 
 // The most transitions of an action of a state of stage n.
@@ -119,10 +125,10 @@ pub fn action_number(b: &[i32], z: Sizes, q: Limits, at: usize, r: usize) -> u32
     if MOST_COST < size {
         return 10;
     }
-    if !nexts_allowed(b, at + 1, r, q.width) {
-        return 11;
-    }
-    if !weights_allowed(b, at + l + 1, r, z.d) {
+    if !lines_allowed(b, z, at + 1, r, q.width) {
+        if !nexts_allowed(b, at + 1, r, q.width) {
+            return 11;
+        }
         return 12;
     }
     if q.most < size {

@@ -1,7 +1,7 @@
 -- Each return is the first question that the action fails: those before it were passed on the way.
 -- Assumes nothing.
-use mathlib.Core.Path.{_≡_, sym, _∙_}
-use mathlib.Core.Bool.{true}
+use mathlib.Core.Path.{_≡_, sym, ap₂, _∙_}
+use mathlib.Core.Bool.{true, _&&_}
 use Prim.Native.Nat.{ℕ, _+_, _-_, _≤_}
 use native.Mathlib.Omega.{arith}
 use borrow.Author.Tests.{le-leb, lt-leb}
@@ -9,6 +9,7 @@ use lib.Dec.{leb}
 use lib.ListN.{length}
 use Rattle.model.specs.Model.{Words, lineAfter}
 use Rattle.model.specs.Questions.{costAllowed, nextsAllowed, weightsAllowed}
+use Rattle.questions.specs.Ranges.{and-true}
 use Rattle.book.proofs.Words.{no, yes′}
 use Rattle.actions.specs.Action.{costUpTo}
 use Rattle.actions.proofs.Steps.{fit-bound, cost-asked, bound-asked, nexts-are, weights-are, ten, eleven, twelve, thirteen, zero-all}
@@ -65,74 +66,73 @@ module _ (c : tie.After-open-size) where
 cost-yes : (c : tie.Else1) → costAllowed (ws (s (c .before))) (n (s (c .before))) (j (s (c .before))) ≡ true
 cost-yes c = sym (cost (c .before)) ∙ le-leb (size (c .before)) 100000 (c .if1 .left)
 
+-- 11 and 12
+lines : (c : tie.After-lines-allowed) →
+    let s = c .before .before .before in
+    c .lines-allowed .result ≡ (nextsAllowed (ws s) (n s) (j s) && weightsAllowed (ws s) (n s) (j s))
+lines c =
+    let s = c .before .before .before in
+    c .lines-allowed .ensures
+    ∙ ap₂ _&&_ (nexts-are (ws s) (s .args .z) (s .pre .1) (n s) (j s) _ _ _ (omega (arith, line s)) (s .pre .2 .r-is) (s .pre .2 .width-is))
+    (weights-are (ws s) (s .args .z) (s .pre .1) (n s) (j s) (s .pre .2 .fit) _ _ (omega (arith, line s)) (s .pre .2 .r-is))
+
 -- 11
 nexts : (c : tie.After-nexts-allowed) →
-    let s = c .before .before .before in
+    let s = c .before .before .before .before .before in
     c .nexts-allowed .result ≡ nextsAllowed (ws s) (n s) (j s)
 nexts c =
-    let s = c .before .before .before in
+    let s = c .before .before .before .before .before in
     c .nexts-allowed .ensures
     ∙ nexts-are (ws s) (s .args .z) (s .pre .1) (n s) (j s) _ _ _ (omega (arith, line s)) (s .pre .2 .r-is) (s .pre .2 .width-is)
-
--- 12
-weights : (c : tie.After-weights-allowed) →
-    let s = c .before .before .before .before .before in
-    c .weights-allowed .result ≡ weightsAllowed (ws s) (n s) (j s)
-weights c =
-    let s = c .before .before .before .before .before in
-    c .weights-allowed .ensures
-    ∙ weights-are (ws s) (s .args .z) (s .pre .1) (n s) (j s) (s .pre .2 .fit) _ _ (omega (arith, line s)) (s .pre .2 .r-is)
 
 returns : tie.Need-returns
 returns c =
     let s = c .before .before in
     ten (s .args .q .most) (ws s) (n s) (j s) (s .pre .2 .fit) (sym (cost (c .before)) ∙ lt-leb (size (c .before)) 100000 (c .if1 .taken))
 
+add-lines-allowed : tie.Need-add-lines-allowed
+add-lines-allowed c = let s = c .before .before in omega (arith, bound s, long s)
+
+lines-allowed-requires : tie.Need-lines-allowed-requires
+lines-allowed-requires c κs = let s = c .before .before in (omega (arith, bound s), long s)
+
 add-nexts-allowed : tie.Need-add-nexts-allowed
-add-nexts-allowed c = omega (arith, bound (c .before .before), long (c .before .before))
+add-nexts-allowed c = let s = c .before .before .before .before in omega (arith, bound s, long s)
 
 nexts-allowed-requires : tie.Need-nexts-allowed-requires
-nexts-allowed-requires c κs = (omega (arith, bound (c .before .before)), long (c .before .before))
+nexts-allowed-requires c κs = let s = c .before .before .before .before in (omega (arith, bound s), long s)
 
 returns-2 : tie.Need-returns-2
 returns-2 c =
-    let e = c .before .before in
+    let e = c .before .before .before .before in
     let s = e .before .before in
-    eleven (s .args .q .most) (ws s) (n s) (j s) (s .pre .2 .fit) (cost-yes e) (no (nexts (c .before)) (c .if2 .taken))
-
-add-weights-allowed : tie.Need-add-weights-allowed
-add-weights-allowed c = let s = c .before .before .before .before in omega (arith, bound s, long s)
-
-add-weights-allowed-2 : tie.Need-add-weights-allowed-2
-add-weights-allowed-2 c = let s = c .before .before .before .before in omega (arith, bound s, long s)
-
-weights-allowed-requires : tie.Need-weights-allowed-requires
-weights-allowed-requires c κs = let s = c .before .before .before .before in (bound s, long s)
+    eleven (s .args .q .most) (ws s) (n s) (j s) (s .pre .2 .fit) (cost-yes e) (no (nexts (c .before)) (c .if3 .taken))
 
 returns-3 : tie.Need-returns-3
 returns-3 c =
     let f = c .before .before in
     let e = f .before .before in
     let s = e .before .before in
-    twelve (s .args .q .most) (ws s) (n s) (j s) (s .pre .2 .fit) (cost-yes e) (yes′ (nexts (f .before)) (f .if2 .left)) (no (weights (c .before)) (c .if3 .taken))
+    let g = yes′ (nexts (c .before)) (c .if3 .left) in
+    twelve (s .args .q .most) (ws s) (n s) (j s) (s .pre .2 .fit) (cost-yes e) g (rw g at (no (lines (f .before)) (f .if2 .taken)))
 
 returns-4 : tie.Need-returns-4
 returns-4 c =
-    let g = c .before .before in
-    let f = g .before .before in
+    let f = c .before .before in
     let e = f .before .before in
     let s = e .before .before in
-    thirteen (s .args .q .most) (ws s) (n s) (j s) (s .pre .2 .fit) (cost-yes e) (yes′ (nexts (f .before)) (f .if2 .left))
-    (yes′ (weights (g .before)) (g .if3 .left)) (sym (bounded (e .before)) ∙ lt-leb (size (e .before)) (s .args .q .most) (c .if4 .taken))
+    let g = and-true _ _ (yes′ (lines (f .before)) (f .if2 .left)) in
+    thirteen (s .args .q .most) (ws s) (n s) (j s) (s .pre .2 .fit) (cost-yes e) (g .0) (g .1)
+    (sym (bounded (e .before)) ∙ lt-leb (size (e .before)) (s .args .q .most) (c .if4 .taken))
 
 returns-5 : tie.Need-returns-5
 returns-5 c =
-    let g = c .before .before in
-    let f = g .before .before in
+    let f = c .before .before in
     let e = f .before .before in
     let s = e .before .before in
-    zero-all (s .args .q .most) (ws s) (n s) (j s) (s .pre .2 .fit) (cost-yes e) (yes′ (nexts (f .before)) (f .if2 .left))
-    (yes′ (weights (g .before)) (g .if3 .left)) (sym (bounded (e .before)) ∙ le-leb (size (e .before)) (s .args .q .most) (c .if4 .left))
+    let g = and-true _ _ (yes′ (lines (f .before)) (f .if2 .left)) in
+    zero-all (s .args .q .most) (ws s) (n s) (j s) (s .pre .2 .fit) (cost-yes e) (g .0) (g .1)
+    (sym (bounded (e .before)) ∙ le-leb (size (e .before)) (s .args .q .most) (c .if4 .left))
 
 pub action-number-spec : {M : Type 1} → statement M
 action-number-spec =
@@ -141,12 +141,11 @@ action-number-spec =
     add-open-size
     open-size-requires
     returns
+    add-lines-allowed
+    lines-allowed-requires
     add-nexts-allowed
     nexts-allowed-requires
     returns-2
-    add-weights-allowed
-    add-weights-allowed-2
-    weights-allowed-requires
     returns-3
     returns-4
     returns-5)
