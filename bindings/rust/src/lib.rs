@@ -166,6 +166,7 @@ pub fn check(book: &[i32]) -> Result<(), Refused> {
 }
 
 /// d^e for d from 1 to 100 and e from 0 to 8; 0 for any other.
+#[inline]
 pub fn power(d: usize, e: usize) -> u64 {
     unsafe { c::kbest_power(d, e) }
 }

@@ -1,40 +1,71 @@
--- `raised` meets its contract: after i turns r is d^i, which is at most 100^8.
+-- `raised` meets its contract: a power by the parts 1, 2, 4 and 8 of its exponent. All are at most 100^8.
 -- Assumes nothing.
-use mathlib.Core.Path.{_≡_, sym, ap, _∙_}
-use Prim.Native.Nat.{_+_, _*_, _-_, _^_, _≤_}
+use mathlib.Core.Path.{_≡_, sym, ap, ap₂, _∙_}
+use Prim.Native.Nat.{_*_, _^_, _≤_}
 use native.Mathlib.Nat.{pow-zero}
 use native.Mathlib.Omega.{arith}
-use Rattle.power.proofs.Range.{power-high, power-next}
+use borrow.Author.Needs.{needs}
+use Rattle.power.proofs.Range.{squared, fourth, eighth, power-high, low-parts-high, parts}
 use Rattle.power.proofs.raised.Statement.{statement}
 use Rattle.power.proofs.raised.Tie as tie
 
-abbrev Inv-loop : tie.InvT-loop
-Inv-loop d e r₀ i₀ r i = (i ≤ e) × (r ≡ d ^ i)
+returns : tie.Need-returns
+returns c = rw (c .if1 .taken, pow-zero (c .before .args .d))
 
-abbrev μ-loop : tie.MeasureT-loop
-μ-loop d e r₀ i₀ r i = e - i
+mul-two : tie.Need-mul-two
+mul-two c = let s = c .before in omega (arith, squared (s .args .d), power-high (s .args .d) 2 (s .pre .0) (omega arith))
 
-loop-holds : tie.Need-loop-holds Inv-loop μ-loop
-loop-holds c = (omega arith, sym (pow-zero _))
+mul-four : tie.Need-mul-four
+mul-four c = let s = c .before in omega (arith, fourth (s .args .d), power-high (s .args .d) 4 (s .pre .0) (omega arith))
 
-mul-r : tie.Need-mul-r Inv-loop μ-loop
-mul-r c =
-    let d = c .before .before .args .d in
-    let i = c .before .loop .i in
-    let next = ap (λ x. x * d) (c .before .loop .inv .1) ∙ power-next d i in
-    omega (arith, next, power-high d (i + 1) (c .before .before .pre .0) (omega arith))
+mul-result : tie.Need-mul-result
+mul-result c = let s = c .before .before in omega (arith, eighth (s .args .d), power-high (s .args .d) 8 (s .pre .0) (omega arith))
 
-add-i : tie.Need-add-i Inv-loop μ-loop
-add-i c = omega arith
+returns-2 : tie.Need-returns-2
+returns-2 c = rw (c .if2 .taken) (eighth (c .before .before .args .d))
 
-loop-less : tie.Need-loop-less Inv-loop μ-loop
-loop-less c = omega arith
+factor-requires : tie.Need-factor-requires
+factor-requires c κs = search needs
 
-loop-again : tie.Need-loop-again Inv-loop μ-loop
-loop-again c = (omega arith, rw (c .before .loop .inv .1) (power-next _ _))
+factor-requires-2 : tie.Need-factor-requires-2
+factor-requires-2 c κs = search needs
 
-returns : tie.Need-returns Inv-loop μ-loop
-returns c = let all : c .before .loop .i ≡ c .before .before .args .e = omega arith in rw (← all) (c .before .loop .inv .1)
+mul-result-2 : tie.Need-mul-result-2
+mul-result-2 c =
+    let s = c .before .before .before .before in
+    omega (arith, ap₂ _*_ (c .before .factor .ensures) (c .factor2 .ensures), low-parts-high (s .args .d) (s .args .e) (s .pre .0))
+
+factor-requires-3 : tie.Need-factor-requires-3
+factor-requires-3 c κs = search needs
+
+product : (c : tie.After-factor3) →
+    let s = c .before .before .before .before .before in
+    c .before .before .factor .result * c .before .factor2 .result * c .factor3 .result ≡ s .args .d ^ s .args .e
+product c =
+    let s = c .before .before .before .before .before in
+    ap₂ _*_ (ap₂ _*_ (c .before .before .factor .ensures) (c .before .factor2 .ensures)) (c .factor3 .ensures)
+    ∙ parts (s .args .d) (s .args .e) (omega arith)
+
+mul-result-3 : tie.Need-mul-result-3
+mul-result-3 c =
+    let s = c .before .before .before .before .before in
+    omega (arith, product c, power-high (s .args .d) (s .args .e) (s .pre .0) (s .pre .1))
+
+returns-3 : tie.Need-returns-3
+returns-3 c = product c
 
 pub raised-spec : {M : Type 1} → statement M
-raised-spec = tie.close (tie.spec Inv-loop μ-loop loop-holds mul-r add-i loop-less loop-again returns)
+raised-spec =
+    tie.close
+    (tie.spec
+    returns
+    mul-two
+    mul-four
+    mul-result
+    returns-2
+    factor-requires
+    factor-requires-2
+    mul-result-2
+    factor-requires-3
+    mul-result-3
+    returns-3)
