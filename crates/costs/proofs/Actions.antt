@@ -1,7 +1,7 @@
 -- The cost of an action with what is expected after it stays within the bound of question 13.
 -- Assumes nothing.
 use mathlib.Core.Path.{_≡_, refl, subst}
-use mathlib.Core.Logic.{inr}
+use mathlib.Core.Logic.{_⊎_}
 use mathlib.Core.List.{List, [], _∷_}
 use Prim.Native.Nat.{ℕ, zero, suc, _+_, _*_, _^_, _≤_}
 use native.Mathlib.Nat.{pow-suc, le-trans, mul-le-mul-left, mul-le-mul-right}
@@ -14,7 +14,7 @@ use Rattle.laws.specs.Members.{AtNexts, every-both}
 use Rattle.accepted.specs.Options.{Option}
 use Rattle.accepted.specs.Shape.{shape, weights-bound, cost-bound}
 use Rattle.accepted.specs.Demands.{most-fits}
-use Rattle.costs.specs.Terms.{absExpected, valueAt, most, Bounded}
+use Rattle.costs.specs.Terms.{absExpected, most}
 
 -- a sum of weighted costs without their signs, by a bound of the costs
 abs-bound : (v : ℕ → ℤ) (B : ℕ) (ts : List Transition) → AtNexts (λ q. natAbs (v q) ≤ B) ts → absExpected v ts ≤ weightsOf ts * B
@@ -36,25 +36,26 @@ module _ (ws : Words) (ok : bookNumber ws ≡ 0) (p c : ℕ) where
   abbrev C : ℕ
   C = largestCost ws
 
-  nexts : (v : List ℤ) → Bounded ws p c v → (m : ℕ) → togo ws p ≡ suc m → AtNexts (λ q. natAbs (valueAt v q) ≤ D ^ m * (m + 1) * C) ts
+  nexts : (v : ℕ → ℤ) → AtNexts (λ q. natAbs (v q) ≤ most ws q) ts → (m : ℕ) → togo ws p ≡ suc m → AtNexts (λ q. natAbs (v q) ≤ D ^ m * (m + 1) * C) ts
   unfolding most
   nexts v h m e =
-      every-both {P = λ t. togo ws p ≡ suc (togo ws (t .next))} {Q = λ t. natAbs (valueAt v (t .next)) ≤ most ws (t .next)}
-      (λ t s b. subst (λ (k : ℕ). natAbs (valueAt v (t .next)) ≤ D ^ k * (k + 1) * C) (omega arith) b) ts (shape ws ok .step p c) h
+      every-both {P = λ t. togo ws p ≡ suc (togo ws (t .next))} {Q = λ t. natAbs (v (t .next)) ≤ most ws (t .next)}
+      (λ t s b. subst (λ (k : ℕ). natAbs (v (t .next)) ≤ D ^ k * (k + 1) * C) (omega arith) b) ts (shape ws ok .step p c) h
 
-  pub within-most : (v : List ℤ) → Option ws p c → Bounded ws p c v → D ^ togo ws p * natAbs (action ws p c .cost) + absExpected (valueAt v) ts ≤ most ws p
+  pub within-most : (v : ℕ → ℤ) → (c ≡ 255) ⊎ Option ws p c → AtNexts (λ q. natAbs (v q) ≤ most ws q) ts
+      → D ^ togo ws p * natAbs (action ws p c .cost) + absExpected v ts ≤ most ws p
   unfolding most
   within-most v o h = go (togo ws p) refl
     where
-      go : (m : ℕ) → togo ws p ≡ m → D ^ togo ws p * natAbs (action ws p c .cost) + absExpected (valueAt v) ts ≤ D ^ togo ws p * (togo ws p + 1) * C
+      go : (m : ℕ) → togo ws p ≡ m → D ^ togo ws p * natAbs (action ws p c .cost) + absExpected v ts ≤ D ^ togo ws p * (togo ws p + 1) * C
       go zero e =
-          let none : absExpected (valueAt v) ts ≡ 0
-          = abs-none (valueAt v) ts (every-both {P = λ t. togo ws p ≡ suc (togo ws (t .next))} {Q = λ t. togo ws p ≡ suc (togo ws (t .next))} (λ t a b. omega arith) ts (shape ws ok .step p c) (shape ws ok .step p c)) in
-          rw (none, e) (omega (arith, mul-le-mul-left (D ^ 0) (cost-bound ws ok p c (inr o))))
+          let none : absExpected v ts ≡ 0
+          = abs-none v ts (every-both {P = λ t. togo ws p ≡ suc (togo ws (t .next))} {Q = λ t. togo ws p ≡ suc (togo ws (t .next))} (λ t a b. omega arith) ts (shape ws ok .step p c) (shape ws ok .step p c)) in
+          rw (none, e) (omega (arith, mul-le-mul-left (D ^ 0) (cost-bound ws ok p c o)))
       go (suc m) e =
-          let expect : absExpected (valueAt v) ts ≤ D * (D ^ m * (m + 1) * C)
-          = le-trans (abs-bound (valueAt v) (D ^ m * (m + 1) * C) ts (nexts v h m e)) (mul-le-mul-right (D ^ m * (m + 1) * C) (weights-bound ws ok p c)) in
-          rw (e, pow-suc D m) (omega (arith, expect, mul-le-mul-left (D ^ m * D) (cost-bound ws ok p c (inr o))))
+          let expect : absExpected v ts ≤ D * (D ^ m * (m + 1) * C)
+          = le-trans (abs-bound v (D ^ m * (m + 1) * C) ts (nexts v h m e)) (mul-le-mul-right (D ^ m * (m + 1) * C) (weights-bound ws ok p c)) in
+          rw (e, pow-suc D m) (omega (arith, expect, mul-le-mul-left (D ^ m * D) (cost-bound ws ok p c o)))
 
   pub most-small : (q : ℕ) → most ws q ≤ 4000000000000000000
   unfolding most togo

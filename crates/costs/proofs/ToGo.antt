@@ -4,22 +4,21 @@ use mathlib.Core.Path.{_≡_, refl, sym, ap, _∙_, subst}
 use mathlib.Core.List.{List}
 use Prim.Native.Nat.{ℕ, _+_, _*_, _^_, _≤_, _<_}
 use native.Mathlib.Omega.{arith}
-use lib.Dec.{T}
 use lib.IntN.{ℤ, pos, _+ℤ_, _*ℤ_}
 use lib.ListN.{length, set}
 use lib.Seq.{getD-set-same, getD-set-other}
 use mathlib.Core.Logic.{_⊎_, inl, inr}
 use native.Mathlib.Nat.{eq-or-lt-of-le}
-use Rattle.model.specs.Model.{Words, Transition, scale, stateCount, togo, action}
+use Rattle.model.specs.Model.{Words, Transition, scale, togo, action}
 use Rattle.model.specs.Questions.{bookNumber}
-use Rattle.model.specs.Policy.{Policy, isPolicy}
+use Rattle.model.specs.Policy.{Policy}
 use Rattle.model.specs.Path.{byteAt, taken}
 use Rattle.model.specs.Recursion.{actionCost, costToGo, through, leastToGo, feasible}
 use Rattle.laws.specs.ToGo.{expected-same, by-stage}
 use Rattle.laws.specs.Members.{AtNexts, every-both}
 use Rattle.accepted.specs.Options.{Feasible, Alive}
 use Rattle.accepted.specs.Shape.{shape, nexts-alive}
-use Rattle.accepted.specs.Demands.{to-go-most, least-most}
+use Rattle.accepted.specs.Demands.{least-most}
 use Rattle.costs.specs.Terms.{valueAt, most, Bounded}
 
 module _ (ws : Words) (ok : bookNumber ws ≡ 0) where
@@ -42,9 +41,6 @@ module _ (ws : Words) (ok : bookNumber ws ≡ 0) where
   abbrev pub Holds : (ℕ → Type 0) → (ℕ → ℤ) → ℕ → List ℤ → Type 0
   Holds P u p v = (q : ℕ) → p ≤ q → P q → valueAt v q ≡ u q
 
-  abbrev State : ℕ → Type 0
-  State q = q < stateCount ws
-
   -- the cost of an action that leads to states of the set, by such an array
   pub by-array : (P : ℕ → Type 0) (u : ℕ → ℤ) (p c : ℕ) (v : List ℤ) → AtNexts P (action ws p c .transitions) → Holds P u (p + 1) v
       → actionCost (scale ws) (togo ws p) (valueAt v) (action ws p c) ≡ actionCost (scale ws) (togo ws p) u (action ws p c)
@@ -55,14 +51,6 @@ module _ (ws : Words) (ok : bookNumber ws ≡ 0) where
       (shape ws ok .later p c) n))
 
   -- bounds of what it holds
-  pub policy-bounded : (bs : Policy) → T (isPolicy ws bs) → (p c : ℕ) (v : List ℤ)
-      → Holds State (λ q. costToGo (scale ws) (taken ws bs) (togo ws q) q) (p + 1) v → Bounded ws p c v
-  unfolding most
-  policy-bounded bs t p c v h =
-      every-both {P = λ (t : Transition). p < t .next} {Q = λ (t : Transition). t .next < stateCount ws}
-      (λ n l i. rw (h (n .next) (omega arith) i) (to-go-most ws ok bs t (togo ws (n .next)) (n .next)))
-      (action ws p c .transitions) (shape ws ok .later p c) (shape ws ok .inside p c)
-
   pub least-bounded : (p c : ℕ) (v : List ℤ) → Feasible ws p c
       → Holds (Alive ws) (λ q. leastToGo (scale ws) (action ws) (feasible ws) (togo ws q) q) (p + 1) v → Bounded ws p c v
   unfolding most

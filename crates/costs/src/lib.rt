@@ -1,5 +1,6 @@
 // Costs-to-go of the states of a checked book: one pass over its lines, from the last state to the first.
 use book::Sizes;
+use book::Stage;
 use lines::Lines;
 ghost use mathlib.Core.Path.{_≡_};
 ghost use Prim.Native.Nat.{_+_, _*_, _^_, _<_, _≤_};
@@ -7,12 +8,13 @@ ghost use lib.IntN.{pos, natAbs, _+ℤ_, _*ℤ_};
 ghost use Rattle.model.specs.Model.{stateCount, action, scale, togo};
 ghost use Rattle.model.specs.Recursion.{expected, actionCost};
 ghost use Rattle.accepted.specs.Options.{Option};
-ghost use Rattle.index.specs.Index.{Indexed};
+ghost use Rattle.book.specs.Read.{StageFor};
+ghost use Rattle.index.specs.Index.{Checked, Indexed};
 ghost use Rattle.lines.specs.Lines.{LinesOf};
 ghost use Rattle.costs.specs.Terms.{absExpected, valueAt, Bounded};
 
 // One term more of a sum of weighted costs.
-fn mul_add(acc: i64, w: usize, v: i64) -> i64
+pub fn mul_add(acc: i64, w: usize, v: i64) -> i64
     requires { ⌜ (natAbs acc + w * natAbs v ≤ 4000000000000000000) × (w ≤ 10000000000000000) ⌝ }
     ensures { λ r. ⌜ r ≡ acc +ℤ pos w *ℤ v ⌝ }
 {
@@ -43,6 +45,14 @@ pub fn unit(b: &[i32], z: Sizes, x: &[usize; 192], p: usize) -> usize
 {
     let m = x[128 + p];
     power::raised(z.d, m) as usize
+}
+
+// The same by the stage t of p: for a pass that needs no index.
+pub fn unit_by(b: &[i32], z: Sizes, t: Stage, p: usize) -> usize
+    requires { ⌜ Checked (now b) z × StageFor (now b) p t ⌝ }
+    ensures { λ r. ⌜ r ≡ scale (now (b .entry)) ^ togo (now (b .entry)) p ⌝ }
+{
+    power::raised(z.d, z.h - t.n) as usize
 }
 
 // The cost of taking action c of state p, which is open, where v has the costs-to-go of its next states. The caller has the unit of p for all its actions.

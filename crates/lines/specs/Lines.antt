@@ -6,6 +6,7 @@ use lib.ListN.{length, getD}
 use Rattle.model.specs.Model.{Words, horizon, lineCount, firstState, stateCount, stage, actionCount, actionLine, Transition, action}
 use Rattle.model.specs.Questions.{bookNumber}
 use Rattle.lines.specs.declared.Lines.{Lines}
+use Rattle.lines.specs.declared.Found.{Found}
 
 -- what stands for a transition that an action does not have
 abbrev pub none : Transition
@@ -14,6 +15,21 @@ none = record { next = 0; weight = 0 }
 -- transition i of action c of state p
 abbrev pub transition : Words → ℕ → ℕ → ℕ → Transition
 transition ws p c i = getD (action ws p c .transitions) i none
+
+-- the word at which the lines of action c of state p begin
+abbrev pub wordOf : Words → ℕ → ℕ → ℕ
+wordOf ws p c = 4 + horizon ws + stateCount ws + actionLine ws p c
+
+-- state p has an action c, whose lines begin at word k
+pub record WordOf (ws : Words) (p c k : ℕ) : Type 0 where
+  pub state : p < stateCount ws
+  pub has : c < actionCount ws p
+  pub is : k ≡ wordOf ws p c
+
+-- r says where the lines of action c of state p begin, if the state has it, and where those of the next state do
+pub record FoundIs (ws : Words) (p c : ℕ) (r : Found) : Type 0 where
+  pub at-is : c < actionCount ws p → r .at ≡ wordOf ws p c
+  pub after-is : r .after ≡ wordOf ws (p + 1) 0
 
 -- t says where the lines of action c of state p of an accepted book lie
 pub record LinesOf (ws : Words) (p c : ℕ) (t : Lines) : Type 0 where

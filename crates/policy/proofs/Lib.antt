@@ -1,3 +1,4 @@
-pub mod Marking
 pub mod Allowed
+pub mod Gather
 pub mod Pass
+pub mod Walk

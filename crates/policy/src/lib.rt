@@ -1,27 +1,39 @@
-// Question 17: is a slice of bytes a policy of a checked book? Next states are later states, so one pass over the states in order, which marks the
-// states that are reached, settles it.
+// Question 17 and the cost of a policy, by one pass over the states in order. Next states are later states, so what the pass has for a state when it
+// comes there is its reach weight: the state is reached if that is not 0, and then adds its action's cost times the weight.
 use book::Sizes;
+use book::Stage;
+use lines::Lines;
 ghost use mathlib.Core.Path.{_≡_};
-ghost use mathlib.Core.List.{[], _∷_};
+ghost use mathlib.Core.Bool.{true};
 ghost use Prim.Native.Nat.{_<_};
+ghost use lib.ListN.{length};
 ghost use Rattle.model.specs.Lists.{isIn};
 ghost use Rattle.model.specs.Model.{stateCount, actionCount, action, options};
-ghost use Rattle.model.specs.Policy.{nexts, allowed, isPolicy};
-ghost use Rattle.index.specs.Index.{Indexed};
-ghost use Rattle.policy.specs.Marks.{Marks, mark};
+ghost use Rattle.model.specs.Policy.{allowed, isPolicy};
+ghost use Rattle.model.specs.Path.{policyCost};
+ghost use Rattle.splits.specs.Reach.{spread};
+ghost use Rattle.index.specs.Index.{Checked};
+ghost use Rattle.lines.specs.Lines.{wordOf, LinesOf};
+ghost use Rattle.reach.specs.Weights.{weightAt, firstWeights, Holds, Room};
 
-// State 0 is reached, and no other is known to be.
-fn first_marks() -> [bool; 64]
-    ensures { λ r. ⌜ Marks r (0 ∷ []) ⌝ }
-{
-    let mut marks = [false; 64];
-    marks[0] = true;
-    marks
+// Is a slice of bytes a policy, and what it costs if it is.
+pub struct Judged {
+    pub is: bool,
+    pub cost: i64,
 }
 
-// Is byte c allowed at state p: one of its open actions if the state is reached, else 255?
-fn byte_allowed(b: &[i32], z: Sizes, x: &[usize; 192], p: usize, reached: bool, c: usize) -> bool
-    requires { ⌜ Indexed (now b) z (now x) × (p < stateCount (now b)) ⌝ }
+// Weight 1 at state 0, where every path begins.
+fn first_weights() -> [usize; 64]
+    ensures { λ r. ⌜ Holds r firstWeights ⌝ }
+{
+    let mut w = [0; 64];
+    w[0] = 1;
+    w
+}
+
+// Is byte c allowed at state p: one of its open actions if the state is reached, else 255? An action c of p begins at word `at`.
+fn byte_allowed(b: &[i32], z: Sizes, p: usize, reached: bool, c: usize, at: usize) -> bool
+    requires { ⌜ Checked (now b) z × (p < stateCount (now b)) × (c < actionCount (now b) p → at ≡ wordOf (now b) p c) ⌝ }
     ensures { λ r. ⌜ r ≡ isIn c (allowed (options (now (b .entry)) p) reached) ⌝ }
 {
     if !reached {
@@ -31,47 +43,59 @@ fn byte_allowed(b: &[i32], z: Sizes, x: &[usize; 192], p: usize, reached: bool, 
     if n <= c {
         return false;
     }
-    let t = lines::of_action(b, z, x, p, c);
-    !lines::is_closed(b, t, p, c)
+    !lines::closed_at(b, z, p, c, at)
 }
 
-// Marks the next states of action c of state p.
-fn mark_nexts(b: &[i32], z: Sizes, x: &[usize; 192], p: usize, c: usize, marks: &mut [bool; 64])
-    requires { ⌜ Indexed (now b) z (now x) × (p < stateCount (now b)) × (c < actionCount (now b) p) ⌝ }
-    ensures { λ _. ⌜ now (marks .exit) ≡ mark (nexts (action (now (b .entry)) p c .transitions)) (now (marks .entry)) ⌝ }
+// Adds y times its weight to the next state of each transition of action c of state p, whose lines are a.
+fn spread_lines(b: &[i32], a: Lines, p: usize, c: usize, y: usize, w: &mut [usize; 64])
+    requires { ⌜ LinesOf (now b) p c a × (length (now w) ≡ 64) × Room y (action (now b) p c .transitions) (now w) ⌝ }
+    ensures { λ _. ⌜ Holds (now (w .exit)) (spread y (action (now (b .entry)) p c .transitions) (weightAt (now (w .entry)))) ⌝ }
 {
-    let t = lines::of_action(b, z, x, p, c);
-    let r = t.r;
+    let r = a.r;
     let mut i: usize = 0;
     while i < r {
-        let q = lines::next(b, t, p, c, i);
-        marks[q] = true;
+        let q = lines::next(b, a, p, c, i);
+        let weight = lines::weight(b, a, p, c, i);
+        w[q] = w[q] + y * weight;
         i = i + 1;
     }
 }
 
-// 17: is the slice a policy of the book, whose index is x?
-pub fn is_policy(b: &[i32], z: Sizes, x: &[usize; 192], plan: &[u8]) -> bool
-    requires { ⌜ Indexed (now b) z (now x) ⌝ }
-    ensures { λ r. ⌜ r ≡ isPolicy (now (b .entry)) (now (plan .entry)) ⌝ }
+// 17, and the cost: is the slice a policy of a checked book, and what does it cost?
+pub fn judge(b: &[i32], z: Sizes, plan: &[u8]) -> Judged
+    requires { ⌜ Checked (now b) z ⌝ }
+    ensures { λ r. ⌜ (r .is ≡ isPolicy (now (b .entry)) (now (plan .entry))) × (isPolicy (now (b .entry)) (now (plan .entry)) ≡ true → r .cost ≡ policyCost (now (b .entry)) (now (plan .entry))) ⌝ }
 {
     let s = z.s;
     let n = plan.len();
     if n != s {
-        return false;
+        return Judged { is: false, cost: 0 };
     }
-    let mut marks = first_marks();
+    let mut w = first_weights();
+    let mut t = Stage { n: 0, end: 1 };
+    let mut at = z.columns;
+    let mut sum: i64 = 0;
     let mut p: usize = 0;
     while p < s {
+        t = book::stage_for(b, z, t, p);
         let c = plan[p] as usize;
-        let reached = marks[p];
-        if !byte_allowed(b, z, x, p, reached, c) {
-            return false;
+        let f = lines::find(b, z, t, p, at, c);
+        let y = w[p];
+        let reached = y != 0;
+        if !byte_allowed(b, z, p, reached, c, f.at) {
+            return Judged { is: false, cost: 0 };
         }
         if reached {
-            mark_nexts(b, z, x, p, c, &mut marks);
+            let a = lines::at_word(b, z, p, c, f.at, t.end);
+            let unit = costs::unit_by(b, z, t, p);
+            sum = costs::mul_add(sum, y * unit, lines::cost(b, a, p, c));
+            spread_lines(b, a, p, c, y, &mut w);
         }
+        at = f.after;
         p = p + 1;
     }
-    true
+    Judged {
+        is: true,
+        cost: sum,
+    }
 }

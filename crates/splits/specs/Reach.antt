@@ -17,7 +17,7 @@ use lib.Signed.{_≤ℤ_, ≤ℤ-refl}
 use lib.ListN.{take, drop}
 use Rattle.model.specs.Lists.{isIn}
 use Rattle.model.specs.Model.{Transition, Action, weightsOf}
-use Rattle.model.specs.Policy.{Policy, nexts, onward}
+use Rattle.model.specs.Policy.{Policy, nexts, allowed, onward}
 use Rattle.model.specs.Path.{byteAt}
 use Rattle.model.specs.Recursion.{expected, actionCost, costToGo}
 use Rattle.laws.specs.Int.{up, dn, is, dif-eq, ring, eq-in, le-in, le-out, ints, sum-is, scale-mono, ≤ℤ-trans}
@@ -231,6 +231,25 @@ module _ (D : ℕ) (togo : ℕ → ℕ) where
         cancel-out (weightsBefore taken p p) (sumOf v (suc p) n) (sumOf v p (suc n)) own (expected v (taken p .transitions))
         (ap (λ (z : ℤ). sumOf v (suc p) n +ℤ pos (weightsBefore taken p p) *ℤ z) (sym k) ∙ total-step v taken S later inside p n e)
 
+    -- the sum over the states from p on of weight × v, before the pass comes to p: all of v 0 is left at the start, and nothing at the end. What the
+    -- pass takes from it at a state is the weight there times what v has of its own there
+    abbrev pub leftOf : (ℕ → ℤ) → ℕ → ℤ
+    leftOf v p = sumOf v p (S - p)
+
+    pub left-start : (v : ℕ → ℤ) → 0 < S → leftOf v 0 ≡ v 0
+    left-start v h = let e : S - 0 ≡ S = omega arith in rw e (total-start v taken S later inside h)
+
+    pub left-step : (v : ℕ → ℤ) (p : ℕ) (own : ℤ) → p < S → v p ≡ own +ℤ expected v (taken p .transitions)
+        → leftOf v (suc p) +ℤ pos (weightsBefore taken p p) *ℤ own ≡ leftOf v p
+    left-step v p own h k =
+        let e : S - p ≡ suc (S - suc p) = omega arith in rw e (settled v p (S - suc p) own (omega arith) k)
+
+    pub left-none : (v : ℕ → ℤ) (p : ℕ) → S ≤ p → leftOf v p ≡ pos 0
+    left-none v p h = let e : S - p ≡ 0 = omega arith in rw e
+
+    pub left-nonneg : (g : ℕ → ℕ) (p : ℕ) → pos 0 ≤ℤ leftOf (λ s. pos (g s)) p
+    left-nonneg g p = sum-nonneg (λ s. weightsBefore taken p s * g s) (S - p) p
+
     module _ (taken′ : ℕ → Action) (r : ℕ) (r< : r < S) (front : (p : ℕ) → p < r → taken′ p ≡ taken p)
         (rest : (s : ℕ) → r < s → s < S → (weightsBefore taken r s ≡ 0) ⊎ (costToGo D taken′ (togo s) s ≡ costToGo D taken (togo s) s)) where
       abbrev v : ℕ → ℤ
@@ -401,13 +420,14 @@ module _ (act : ℕ → ℕ → Action) where
       weights = weightsBefore (λ q. act q (f q))
 
       -- before the pass comes to state p, the states from p on that have a weight are those of the list
-      abbrev Agree : ℕ → List ℕ → Type 0
+      abbrev pub Agree : ℕ → List ℕ → Type 0
       Agree p reach = (s : ℕ) → p ≤ s → (0 < weights p s) ↔ In s reach
 
-      agree-next : (n p : ℕ) (reach : List ℕ) (b : ℕ) (bs : Policy) → IsPolicy act opts (suc n) p reach (b ∷ bs) → f p ≡ b
+      -- one byte more, which is allowed there
+      pub agree-next : (p : ℕ) (reach : List ℕ) (b : ℕ) → In b (allowed (opts p) (isIn p reach)) → f p ≡ b
           → Agree p reach → Agree (suc p) (onward act p b reach)
       unfolding weightsBefore
-      agree-next n p reach b bs h e g s l =
+      agree-next p reach b h e g s l =
           rw e (
             λ k. to (spread-to (weights p p) ts (weights p) s k),
             λ i. spread-from (weights p p) ts (weights p) s (positive p b) (from (in-++ s (nexts ts) reach i)),
@@ -426,7 +446,7 @@ module _ (act : ℕ → ℕ → Action) where
           fresh : (c : Bool) → isIn p reach ≡ c → In s (nexts ts) → Weighs
           fresh true c i = inl (g p (omega arith) .1 (isIn-in p reach (true-T c)), i)
           fresh false c i =
-              absurd (subst (λ (us : List Transition). In s (nexts us)) (ap (λ (x : ℕ). act p x .transitions) (in-one (rw c at (h .0))) ∙ bare p) i)
+              absurd (subst (λ (us : List Transition). In s (nexts us)) (ap (λ (x : ℕ). act p x .transitions) (in-one (rw c at h)) ∙ bare p) i)
 
           from : In s (nexts ts) ⊎ In s reach → Weighs
           from (inl i) = fresh (isIn p reach) refl i
@@ -439,9 +459,9 @@ module _ (act : ℕ → ℕ → Action) where
       agree-on (suc k) (suc n) p reach [] h r g l = absurd h
       agree-on (suc k) (suc n) p reach (b ∷ bs) h r g l =
           rw (add-suc, ← suc-add)
-          (agree-on k n (suc p) (onward act p b reach) bs (h .1) (r .1) (agree-next n p reach b bs h (r .0) g) (omega arith))
+          (agree-on k n (suc p) (onward act p b reach) bs (h .1) (r .1) (agree-next p reach b (h .0) (r .0) g) (omega arith))
 
-    agree-start : (f : ℕ → ℕ) → Agree f 0 (0 ∷ [])
+    pub agree-start : (f : ℕ → ℕ) → Agree f 0 (0 ∷ [])
     unfolding weightsBefore
     agree-start f s l = (λ h. to (add-to 0 1 (λ q. 0) s h), λ i. rw (in-one i, add-at) (omega arith))
       where

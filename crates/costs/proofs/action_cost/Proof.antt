@@ -1,6 +1,7 @@
 -- The action's cost against its unit, and then what is expected after it.
 -- Assumes nothing.
 use mathlib.Core.Path.{_≡_, ap, _∙_}
+use mathlib.Core.Logic.{inr}
 use Prim.Native.Nat.{_+_, _*_, _^_, _≤_}
 use native.Mathlib.Nat.{le-trans}
 use native.Mathlib.Omega.{arith}
@@ -29,7 +30,7 @@ module _ (s : tie.Start) where
       + absExpected (valueAt (s .args .v .now)) (action ws (s .args .p) (s .args .c) .transitions)
       ≤ 4000000000000000000
   total =
-      le-trans (within-most ws (s .pre .0 .ok) (s .args .p) (s .args .c) (s .args .v .now) (s .pre .2) (s .pre .3))
+      le-trans (within-most ws (s .pre .0 .ok) (s .args .p) (s .args .c) (valueAt (s .args .v .now)) (inr (s .pre .2)) (s .pre .3))
       (most-small ws (s .pre .0 .ok) (s .args .p) (s .args .c) (s .args .p))
 
 cost-requires : tie.Need-cost-requires

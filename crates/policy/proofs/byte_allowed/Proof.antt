@@ -2,9 +2,10 @@
 -- Assumes nothing.
 use mathlib.Core.Path.{sym, ap, _∙_}
 use mathlib.Core.Bool.{not}
+use Prim.Native.Nat.{_<_}
 use native.Mathlib.Omega.{arith}
 use borrow.Author.Tests.{not-true, not-false}
-use Rattle.model.specs.Model.{options}
+use Rattle.model.specs.Model.{actionCount, options}
 use Rattle.policy.proofs.Allowed.{allowed-unreached, beyond-actions, own-action}
 use borrow.Author.Needs.{needs}
 use Rattle.policy.proofs.byte_allowed.Statement.{statement}
@@ -24,21 +25,23 @@ returns-2 c =
     rw (not-false (s .reached) (c .before .before .if1 .left))
     (sym (beyond-actions (s .b .now) (s .p) (s .c) (omega (arith, c .before .count .ensures, c .if2 .taken))))
 
-of-action-requires : tie.Need-of-action-requires
-of-action-requires c κs = search needs
+-- the byte is an action
+below : (c : tie.Else2) → let s = c .before .before .before in s .args .c < actionCount (s .args .b .now) (s .args .p)
+below c = omega (arith, c .before .count .ensures, c .if2 .left)
 
-is-closed-requires : tie.Need-is-closed-requires
-is-closed-requires c κs = search needs
+closed-at-requires : tie.Need-closed-at-requires
+closed-at-requires c κs =
+    let s = c .before .before .before in
+    (s .pre .0, record { state = s .pre .1; has = below c; is = s .pre .2 (below c) })
 
 returns-3 : tie.Need-returns-3
 returns-3 c =
-    let e = c .before .before in
+    let e = c .before in
     let s = e .before .before .before .args in
     rw (not-false (s .reached) (e .before .before .if1 .left))
-    (ap not (c .is-closed .ensures)
-    ∙ sym (own-action (s .b .now) (s .p) (s .c) (omega (arith, e .before .count .ensures, e .if2 .left))))
+    (ap not (c .closed-at .ensures) ∙ sym (own-action (s .b .now) (s .p) (s .c) (below e)))
 
 pub byte-allowed-spec : {M : Type 1} → statement M
 byte-allowed-spec =
     tie.close
-    (tie.spec returns count-requires returns-2 of-action-requires is-closed-requires returns-3)
+    (tie.spec returns count-requires returns-2 closed-at-requires returns-3)

@@ -1,0 +1,15 @@
+-- The weight of state 0 is the only one that is not 0.
+-- Assumes nothing.
+use Rattle.reach.proofs.Spreading.{first-held}
+use borrow.Author.Needs.{needs}
+use Rattle.policy.proofs.first_weights.Statement.{statement}
+use Rattle.policy.proofs.first_weights.Tie as tie
+
+array-write-w : tie.Need-array-write-w
+array-write-w c = search needs
+
+returns : tie.Need-returns
+returns c = first-held
+
+pub first-weights-spec : {M : Type 1} → statement M
+first-weights-spec = tie.close (tie.spec array-write-w returns)
