@@ -1,5 +1,6 @@
 mod Lent
+mod Ranks
+mod Item
 mod Method
 mod Rider
-mod Ranked
 mod Looked

@@ -1,4 +1,5 @@
-// The desk in the caller's memory: each call takes the desk from there, asks for the next and puts that in its place.
+// The desk in the caller's memory: each call of a rider asks a method by value for its number, and writes what a granted one changes; opening puts the next
+// desk in the place of the one there.
 ghost use mathlib.Core.Path.{_≡_};
 ghost use Rattle.reservation.specs.Reservations.{heldBy, committedBy, reply, asking, committing, cancelling, opening};
 use reservation::Answer;
@@ -16,27 +17,34 @@ pub fn opened(desk: Desk, record: &[u8]) -> Answer
 pub fn ask(desk: &mut Desk, rider: usize, rank: usize) -> u32
     ensures { λ r. ⌜ reply r (now (desk .exit)) ≡ asking (now (desk .entry)) rider rank ⌝ }
 {
-    let a = desk.asking(rider, rank);
-    *desk = a.desk;
-    a.no
+    let no = desk.ask_number(rider, rank);
+    if no == 0 {
+        desk.held[rider] = rank as u8;
+    }
+    no
 }
 
 // The rank that the rider holds becomes theirs.
 pub fn commit(desk: &mut Desk, rider: usize) -> u32
     ensures { λ r. ⌜ reply r (now (desk .exit)) ≡ committing (now (desk .entry)) rider ⌝ }
 {
-    let a = desk.committing(rider);
-    *desk = a.desk;
-    a.no
+    let no = desk.commit_number(rider);
+    if no == 0 {
+        desk.committed[rider] = desk.held[rider];
+        desk.held[rider] = 0;
+    }
+    no
 }
 
 // Drops what the rider holds, and never a commitment.
 pub fn cancel(desk: &mut Desk, rider: usize) -> u32
     ensures { λ r. ⌜ reply r (now (desk .exit)) ≡ cancelling (now (desk .entry)) rider ⌝ }
 {
-    let a = desk.cancelling(rider);
-    *desk = a.desk;
-    a.no
+    let no = desk.cancel_number(rider);
+    if no == 0 {
+        desk.held[rider] = 0;
+    }
+    no
 }
 
 // Opens the desk, also anew, with the k of a record that is accepted.

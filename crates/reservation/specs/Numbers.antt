@@ -1,6 +1,6 @@
 -- When each call of the desk is refused, and when it is granted.
 -- Assumes nothing.
-use mathlib.Core.Path.{_≡_, sym, _∙_}
+use mathlib.Core.Path.{_≡_, refl, sym, _∙_}
 use mathlib.Core.Bool.{true, false}
 use mathlib.Core.List.{List, [], _∷_}
 use Prim.Native.Nat.{ℕ, _<_, _≤_}
@@ -9,10 +9,10 @@ use lib.Dec.{leb}
 use borrow.Author.Tests.{lt-ltb, le-ltb, le-leb, lt-leb, ne-eqb, ltb-true, leb-true, eqb-true}
 use Rattle.model.specs.Questions.{Question, firstNo}
 use Rattle.questions.specs.FirstNo.{fails, passes, none, passed, after}
-use Rattle.questions.specs.Answers.{stops}
+use Rattle.questions.specs.Answers.{stops, leaves, gives}
 use Rattle.questions.specs.Ranges.{and-true, and-right}
 use Rattle.reservation.specs.declared.Desk.{Desk}
-use Rattle.reservation.specs.Reservations.{riders, heldBy, committedBy, free, isRider, mayHave, askQuestions, commitQuestions, cancelQuestions}
+use Rattle.reservation.specs.Reservations.{riders, heldBy, committedBy, free, isRider, mayHave, askQuestions, commitQuestions, cancelQuestions, reply, answer}
 
 pub no-rider : (rider : ℕ) (qs : List (Question ℕ)) → riders ≤ rider → firstNo (isRider ∷ qs) rider ≡ 22
 no-rider rider qs h = fails rider isRider qs (le-ltb rider riders h)
@@ -54,6 +54,15 @@ module _ (rider : ℕ) (is : rider < riders) where
 
         pub may-ask : free d rider rank ≡ true → committedBy d rider ≡ 0 → firstNo (askQuestions d rank) rider ≡ 0
         may-ask e z = a-rank ∙ passes rider _ [] (rw (e, z)) ∙ none rider
+
+-- ---- the answer of a call whose number n is `no`
+
+module _ (d next : Desk) {n no : ℕ} (e : n ≡ no) where
+  pub refused : (n ≡ 0 → ⊥) → reply n d ≡ answer no next d
+  refused h i = reply (e i) (leaves e h next d i)
+
+  pub granted : n ≡ 0 → reply n next ≡ answer no next d
+  granted z i = reply (e i) (gives (sym e ∙ z) {x = next} d refl i)
 
 -- ---- what a granted call says
 

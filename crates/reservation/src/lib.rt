@@ -1,12 +1,11 @@
-// Reservations: ranks of one accepted record, for sixteen riders. A rank is held on asking and theirs on committing. Each call takes a desk by value
-// and gives the next.
+// Reservations: ranks of one accepted record, for sixteen riders. A rank is held on asking and theirs on committing. A method takes a desk by value and
+// gives a call's number, or a rank; opening gives the next desk. What a granted call changes is written where the desk is lent.
 ghost use mathlib.Core.Path.{_≡_};
 ghost use mathlib.Core.Bool.{not, _||_};
-ghost use Prim.Native.Nat.{_%_};
 ghost use lib.Dec.{eqb};
 ghost use lib.ListN.{getD, replicate};
 ghost use Rattle.model.specs.Questions.{firstNo};
-ghost use Rattle.reservation.specs.Reservations.{heldBy, committedBy, free, askQuestions, commitQuestions, cancelQuestions, openFor, holding, taking, answer, asking, committing, cancelling};
+ghost use Rattle.reservation.specs.Reservations.{heldBy, committedBy, free, askQuestions, commitQuestions, cancelQuestions, openFor, answer};
 
 // How many riders there are.
 const RIDERS: usize = 16;
@@ -22,7 +21,7 @@ pub struct Desk {
     pub committed: [u8; 16],
 }
 
-// The number of a call and the desk afterwards.
+// The number of opening and the desk afterwards.
 pub struct Answer {
     pub no: u32,
     pub desk: Desk,
@@ -46,27 +45,20 @@ fn open_for(k: u8) -> Desk
     }
 }
 
-// Does a rider with these two ranks leave the rank to the asker? The asker does.
-fn leaves(held: u8, committed: u8, rank: usize, asker: bool) -> bool
-    ensures { λ r. ⌜ r ≡ (not (eqb held rank || eqb committed rank) || asker) ⌝ }
+// Is a rank with a rider? Then how the rider's number differs from the asker's, so 0 for the asker; else 0.
+fn differs(held: u8, committed: u8, rank: u8, apart: u8) -> u8
+    ensures { λ r. ⌜ eqb r 0 ≡ (not (eqb held rank || eqb committed rank) || eqb apart 0) ⌝ }
 {
-    if held as usize == rank {
-        return asker;
+    if held == rank {
+        return apart;
     }
-    if committed as usize == rank {
-        return asker;
+    if committed == rank {
+        return apart;
     }
-    true
+    0
 }
 
-// A rank that is listed, as a byte: k is one, so no such rank is cut.
-fn low_byte(rank: usize) -> u8
-    ensures { λ r. ⌜ r ≡ rank % 256 ⌝ }
-{
-    (rank % 256) as u8
-}
-
-// The number that each call of a rider asks for first; of cancelling it is the whole.
+// The number that each call of a rider asks for first.
 fn rider_number(rider: usize) -> u32
     ensures { λ r. ⌜ r ≡ firstNo cancelQuestions rider ⌝ }
 {
@@ -108,22 +100,21 @@ impl Desk {
         rank_of(ranks, rider)
     }
 
-    // Is the rank with no other rider?
-    fn is_free(self, rider: usize, rank: usize) -> bool
+    // Is the rank with no other rider? All sixteen are asked, with no branch on what one has: sixteen bytes are compared at a time.
+    fn is_free(self, rider: u8, rank: u8) -> bool
         ensures { λ r. ⌜ r ≡ free self rider rank ⌝ }
     {
+        let mut others: u8 = 0;
         let mut i: usize = 0;
         while i < RIDERS {
-            if !leaves(self.held[i], self.committed[i], rank, i == rider) {
-                return false;
-            }
+            others = others | differs(self.held[i], self.committed[i], rank, i as u8 ^ rider);
             i = i + 1;
         }
-        true
+        others == 0
     }
 
-    // The number of asking.
-    fn ask_number(self, rider: usize, rank: usize) -> u32
+    // The number of asking. A rank that is listed is a byte, as k is one.
+    pub fn ask_number(self, rider: usize, rank: usize) -> u32
         ensures { λ r. ⌜ r ≡ firstNo (askQuestions self rank) rider ⌝ }
     {
         let no = rider_number(rider);
@@ -139,11 +130,15 @@ impl Desk {
         if self.committed_by(rider) != 0 {
             return 24;
         }
-        if self.is_free(rider, rank) { 0 } else { 24 }
+        if self.is_free(rider as u8, rank as u8) {
+            0
+        } else {
+            24
+        }
     }
 
     // The number of committing.
-    fn commit_number(self, rider: usize) -> u32
+    pub fn commit_number(self, rider: usize) -> u32
         ensures { λ r. ⌜ r ≡ firstNo (commitQuestions self) rider ⌝ }
     {
         let no = rider_number(rider);
@@ -153,28 +148,14 @@ impl Desk {
         if self.held_by(rider) == 0 { 24 } else { 0 }
     }
 
-    // The rider holds the rank, and no other; 0 drops the hold. A number that is no rider's changes nothing.
-    fn holding(mut self, rider: usize, rank: u8) -> Desk
-        ensures { λ r. ⌜ r ≡ holding self rider rank ⌝ }
+    // The number of cancelling.
+    pub fn cancel_number(self, rider: usize) -> u32
+        ensures { λ r. ⌜ r ≡ firstNo cancelQuestions rider ⌝ }
     {
-        if rider < RIDERS {
-            self.held[rider] = rank;
-        }
-        self
+        rider_number(rider)
     }
 
-    // The rank that the rider held is theirs, and the hold has ended.
-    fn taking(self, rider: usize) -> Desk
-        ensures { λ r. ⌜ r ≡ taking self rider ⌝ }
-    {
-        let mut next = self.holding(rider, 0);
-        if rider < RIDERS {
-            next.committed[rider] = self.held[rider];
-        }
-        next
-    }
-
-    // A refused call changes nothing.
+    // A refused opening changes nothing.
     fn answer(self, no: u32, next: Desk) -> Answer
         ensures { λ a. ⌜ a ≡ answer no next self ⌝ }
     {
@@ -182,30 +163,6 @@ impl Desk {
             return Answer { no: no, desk: self };
         }
         Answer { no: 0, desk: next }
-    }
-
-    // A granted ask drops the rider's earlier hold.
-    pub fn asking(self, rider: usize, rank: usize) -> Answer
-        ensures { λ a. ⌜ a ≡ asking self rider rank ⌝ }
-    {
-        let no = self.ask_number(rider, rank);
-        self.answer(no, self.holding(rider, low_byte(rank)))
-    }
-
-    // The rank held becomes the rider's.
-    pub fn committing(self, rider: usize) -> Answer
-        ensures { λ a. ⌜ a ≡ committing self rider ⌝ }
-    {
-        let no = self.commit_number(rider);
-        self.answer(no, self.taking(rider))
-    }
-
-    // A hold is dropped, a commitment never.
-    pub fn cancelling(self, rider: usize) -> Answer
-        ensures { λ a. ⌜ a ≡ cancelling self rider ⌝ }
-    {
-        let no = rider_number(rider);
-        self.answer(no, self.holding(rider, 0))
     }
 
     // Opening, of the number and the k that accepting the record gives.

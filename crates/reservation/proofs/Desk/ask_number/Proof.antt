@@ -38,6 +38,14 @@ returns-4 c =
     let s = l .before .before .args in
     sym (has-committed (s .rider) (is l) (s .self) (s .rank) (omega arith) (omega arith) (λ e. c .if4 .taken (c .before .committed-by .ensures ∙ e)))
 
+cast-is-free : tie.Need-cast-is-free
+cast-is-free c = record { fits = omega (arith, is (c .before .before .before .before .before)) }
+
+cast-is-free-2 : tie.Need-cast-is-free-2
+cast-is-free-2 c =
+    let k : c .before .before .before .before .before .before .before .args .self .k < 256 = search needs in
+    record { fits = omega (arith, k, c .before .before .if3 .left) }
+
 is-free-requires : tie.Need-is-free-requires
 is-free-requires c κs = search needs
 
@@ -56,4 +64,5 @@ returns-6 c =
 
 pub ask-number-spec : {M : Type 1} → statement M
 ask-number-spec =
-    tie.close (tie.spec rider-number-requires returns returns-2 cast-if3 returns-3 committed-by-requires returns-4 is-free-requires returns-5 returns-6)
+    tie.close (tie.spec rider-number-requires returns returns-2 cast-if3 returns-3 committed-by-requires returns-4 cast-is-free
+    cast-is-free-2 is-free-requires returns-5 returns-6)

@@ -1,7 +1,7 @@
 -- Assumes nothing.
 use borrow.Author.Tests.{eq-eqb, ne-eqb}
-use Rattle.reservation.proofs.leaves.Statement.{statement}
-use Rattle.reservation.proofs.leaves.Tie as tie
+use Rattle.reservation.proofs.differs.Statement.{statement}
+use Rattle.reservation.proofs.differs.Tie as tie
 
 returns : tie.Need-returns
 returns c = rw (eq-eqb _ _ (c .if1 .taken))
@@ -12,5 +12,5 @@ returns-2 c = rw (ne-eqb _ _ (c .before .if1 .left), eq-eqb _ _ (c .if2 .taken))
 returns-3 : tie.Need-returns-3
 returns-3 c = rw (ne-eqb _ _ (c .before .if1 .left), ne-eqb _ _ (c .if2 .left))
 
-pub leaves-spec : {M : Type 1} → statement M
-leaves-spec = tie.close (tie.spec returns returns-2 returns-3)
+pub differs-spec : {M : Type 1} → statement M
+differs-spec = tie.close (tie.spec returns returns-2 returns-3)
