@@ -130,11 +130,8 @@ impl Desk {
         if self.committed_by(rider) != 0 {
             return 24;
         }
-        if self.is_free(rider as u8, rank as u8) {
-            0
-        } else {
-            24
-        }
+        let free = self.is_free(rider as u8, rank as u8);
+        if free { 0 } else { 24 }
     }
 
     // The number of committing.
