@@ -9,7 +9,7 @@ use borrow.Author.Tests.{le-leb, lt-leb}
 use lib.Dec.{leb}
 use lib.IntN.{ℤ, pos, natAbs}
 use lib.ListN.{length, take, drop, length-append, length-drop}
-use lib.Seq.{take-at}
+use lib.Seq.{take-at, take-all}
 use Rattle.model.specs.Lists.{all}
 use Rattle.model.specs.Model.{Words, word, horizon, stateCount}
 use Rattle.model.specs.Questions.{firstNo, inside, laterSize, sizesAllowed, sizeQuestions, bookNumber}
@@ -140,6 +140,6 @@ over-long xs o h = length-append xs (drop (length xs) o) ∙ omega (arith, lengt
 pub over-front : (xs o : List ℤ) (n : ℕ) → length xs ≡ n → take n (over xs o) ≡ xs
 over-front xs o n e = take-at xs (drop (length xs) o) n e
 
--- what is copied from the front
-pub copied : (xs o slice after : List ℤ) (n : ℕ) → length xs ≡ n → after ≡ written slice 0 n (take n (drop 0 (over xs o))) → after ≡ over xs slice
-copied xs o slice after n e q = q ∙ ap (written slice 0 n) (over-front xs o n e) ∙ written-front slice n xs e
+-- what is copied whole
+pub copied : (xs slice : List ℤ) (n : ℕ) → length xs ≡ n → written slice 0 n (take n (drop 0 xs)) ≡ over xs slice
+copied xs slice n e = ap (written slice 0 n) (take-all n xs (omega (arith, e))) ∙ written-front slice n xs e

@@ -181,16 +181,21 @@ module _ (t : Words) (ok : linesGiven t ≡ true) where
       let r = inside-range 1 8 (word t (5 + s)) e in
       (own-inside 1 8 (word t (5 + s)) e, r .0, r .1)
 
+  -- the walk over a state finds nothing amiss
+  pub state-given : (s : ℕ) → s < n → stateGiven t s ≡ true
+  unfolding statesGiven
+  state-given s l = all-at n (stateGiven t) (each .1) s l
+
   pub entry-as : (s c : ℕ) → s < n → c < tableCount t s → EntryAs t (tableActionLine t s c)
-  unfolding statesGiven stateGiven
+  unfolding stateGiven
   entry-as s c l k =
       entry-says t (tableActionLine t s c)
-      (all-at (tableCount t s) (λ (c : ℕ). entryGiven t (tableActionLine t s c)) (all-at n (stateGiven t) (each .1) s l) c k)
+      (all-at (tableCount t s) (λ (c : ℕ). entryGiven t (tableActionLine t s c)) (state-given s l) c k)
 
-  -- the walk over the states below `end` finds nothing amiss
+  -- nor does the one over the states below `end`
   pub states-below : (end : ℕ) → end ≤ n → statesGiven t end ≡ true
   unfolding statesGiven
-  states-below end l = all-yes end (stateGiven t) (λ s k. all-at n (stateGiven t) (each .1) s (omega arith))
+  states-below end l = all-yes end (stateGiven t) (λ s k. state-given s (omega arith))
 
   pub all-used : tableStateLine t n + n ≡ tableLines t
   unfolding allUsed closingLine

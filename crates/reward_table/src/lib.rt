@@ -123,7 +123,7 @@ fn entry_given(t: &[i32], z: Table, j: usize) -> bool
 }
 
 // The walk over the actions of state s, whose first line is line `start`.
-fn walk_state(t: &[i32], z: Table, s: usize, start: usize) -> Walk
+pub fn walk_state(t: &[i32], z: Table, s: usize, start: usize) -> Walk
     requires { ⌜ Given (now t) × TableRead (now t) z × (s < tableStates (now t)) × (start ≡ tableStateLine (now t) s) × (start ≤ 2048) ⌝ }
     ensures { λ r. ⌜ Walked (now (t .entry)) s r ⌝ }
 {

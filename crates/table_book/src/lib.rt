@@ -44,15 +44,14 @@ fn sizes_of(h: usize, n: usize, from: usize, to: usize, body: usize) -> Sizes
     }
 }
 
-// The sizes of the book of a table that passes 25 and 26.
+// The sizes of the book of a table that passes 25 and 26: so the lines of its states are all but those of the closings.
 pub fn measure(t: &[i32], z: Table) -> Sizes
     requires { ⌜ Passed (now t) z ⌝ }
     ensures { λ r. ⌜ Made (now (t .entry)) r ⌝ }
 {
     let a = reward_table::walk_to(t, z, z.first);
-    let b = reward_table::walk_to(t, z, z.first + 1);
-    let c = reward_table::walk_to(t, z, z.n);
-    sizes_of(z.h, z.n, a.at, b.at, c.at)
+    let b = reward_table::walk_state(t, z, z.first, a.at);
+    sizes_of(z.h, z.n, a.at, b.at, z.l - z.n)
 }
 
 // ---- runs of words, written from index `at` on
@@ -66,6 +65,31 @@ pub fn copy(t: &[i32], from: usize, count: usize, out: &mut [i32], at: usize)
     while i < count {
         out[at + i] = t[from + i];
         i = i + 1;
+    }
+}
+
+// `count` words that stand in `out` before `at`, from word `from` on.
+fn again(out: &mut [i32], from: usize, count: usize, at: usize)
+    requires { ⌜ (from + count ≤ at) × (at + count ≤ length (now out)) ⌝ }
+    ensures { λ _. ⌜ now (out .exit) ≡ written (now (out .entry)) at count (take count (drop from (now (out .entry)))) ⌝ }
+{
+    let mut i: usize = 0;
+    while i < count {
+        out[at + i] = out[from + i];
+        i = i + 1;
+    }
+}
+
+// `count` words that stand in `out` from word `from` on, m times more after them.
+fn repeat(out: &mut [i32], from: usize, count: usize, m: usize)
+    requires { ⌜ from + count + m * count ≤ length (now out) ⌝ }
+    ensures { λ _. ⌜ now (out .exit) ≡ written (now (out .entry)) (from + count) (m * count) (repeated m (take count (drop from (now (out .entry))))) ⌝ }
+{
+    let at = from + count;
+    let mut k: usize = 0;
+    while k < m {
+        again(out, from, count, at + k * count);
+        k = k + 1;
     }
 }
 
@@ -133,17 +157,17 @@ fn put_lines(t: &[i32], z: Table, right: bool, j: usize, count: usize, out: &mut
 
 // ---- the parts of the book
 
-// The column of all states' lines, once for each stage between the first and the last.
+// The column of all states' lines, once for each stage between the first and the last: it is made once, and copied.
 fn put_stages(t: &[i32], z: Table, right: bool, body: usize, out: &mut [i32], at: usize)
     requires { ⌜ Given (now t) × TableRead (now t) z × (body ≤ tableLines (now t)) × Turnable (now t) 0 0 body × (at + (z .h - 1) * body ≤ length (now out)) ⌝ }
     ensures { λ _. ⌜ now (out .exit) ≡ written (now (out .entry)) at ((z .h - 1) * body) (repeated (z .h - 1) (columnFrom (now (t .entry)) right 0 body)) ⌝ }
 {
     let m = z.h - 1;
-    let mut k: usize = 0;
-    while k < m {
-        put_lines(t, z, right, 0, body, out, at + k * body);
-        k = k + 1;
+    if m == 0 {
+        return;
     }
+    put_lines(t, z, right, 0, body, out, at);
+    repeat(out, at, body, m - 1);
 }
 
 // A column of the book.

@@ -1,20 +1,15 @@
--- The questions of the table in order, the book made apart and asked its own, and then copied.
+-- The questions of the table in order, and of the book's sizes.
 -- Assumes nothing.
-use mathlib.Core.Path.{_≡_, sym, ap, _∙_}
-use Prim.Native.Nat.{_-_, _≤_}
+use mathlib.Core.Path.{_≡_, sym, _∙_}
+use Prim.Native.Nat.{_≤_}
 use native.Mathlib.Omega.{arith}
 use borrow.Author.Needs.{needs}
-use mathlib.Core.List.{List}
-use lib.IntN.{ℤ}
-use lib.ListN.{length, take, drop}
-use lib.Seq.{length-take-le}
-use Rattle.bytes_io.specs.Slices.{written}
-use Rattle.model.specs.Questions.{firstNo, bookNumber}
+use lib.ListN.{length}
+use Rattle.model.specs.Questions.{firstNo}
 use Rattle.reward_table.specs.Table.{tableQuestions}
 use Rattle.reward_table.specs.Convert.{tableBook}
 use Rattle.table_book.specs.Read.{Passed}
-use Rattle.convert.proofs.Numbers.{too-many-lines, too-many-states, of-table, of-room, of-book, table-given, table-passed, measured, short}
-use Rattle.convert.proofs.Numbers.{refusal, success, over-long, over-front, copied}
+use Rattle.convert.proofs.Numbers.{too-many-lines, too-many-states, of-table, of-room, of-book, table-given, table-passed, measured, short, refusal}
 use Rattle.convert.proofs.convert.Statement.{statement}
 use Rattle.convert.proofs.convert.Tie as tie
 
@@ -31,42 +26,10 @@ long c = measured (read-passed (c .before)) (c .measure .ensures)
 abbrev measured-at : tie.Else4 → tie.After-measure
 measured-at c = c .before .before .before
 
-abbrev start : tie.Else4 → tie.Start
-start c = measured-at c .before .before .before .before
-
 fits : (c : tie.Else4) → measured-at c .measure .result .length ≤ 4172
 fits c =
     let m = measured-at c in
     short (read-passed (m .before)) (m .measure .ensures) (omega (arith, c .before .if3 .left)) (omega (arith, c .if4 .left))
-
--- and was made
-made-long : (c : tie.After-put-book) → length (c .put-book .last .1 .1 .1 .0) ≡ 4172
-made-long c =
-    let n = c .before .before in
-    let e = n .before in
-    ap length (c .put-book .ensures)
-    ∙ over-long (tableBook (start e .args .t .now)) (n .no-book .result) (omega (arith, fits e, long (measured-at e), n .no-book .ensures))
-    ∙ n .no-book .ensures
-
-front : (c : tie.After-put-book) →
-    let e = c .before .before .before in
-    take (measured-at e .measure .result .length) (c .put-book .last .1 .1 .1 .0) ≡ tableBook (start e .args .t .now)
-front c =
-    let n = c .before .before in
-    let e = n .before in
-    let l = measured-at e .measure .result .length in
-    ap (take l) (c .put-book .ensures) ∙ over-front (tableBook (start e .args .t .now)) (n .no-book .result) l (long (measured-at e))
-
--- the book was asked its own questions
-checked : (c : tie.After-check) →
-    let t = start (c .before .before .before .before .before .before) .args .t .now in c .check .result ≡ bookNumber (tableBook t)
-checked c = c .check .ensures ∙ ap bookNumber (front (c .before .before .before))
-
-room : (c : tie.After-check) →
-    let s = start (c .before .before .before .before .before .before) in length (tableBook (s .args .t .now)) ≤ length (s .args .out .now)
-room c =
-    let e = c .before .before .before .before .before .before in
-    omega (arith, long (measured-at e), e .before .before .if2 .left)
 
 table-number-requires : tie.Need-table-number-requires
 table-number-requires c κs = search needs
@@ -126,64 +89,43 @@ returns-4 c =
     (too-many-states _ (p .given) (p .lines) (omega (arith, f .if3 .left, q .lines-is)) (omega (arith, e .if4 .taken, q .states-is))))
     (λ z. omega arith) _ (c .refused4 .ensures)
 
-no-book-requires : tie.Need-no-book-requires
-no-book-requires c κs = search needs
+short-room-requires : tie.Need-short-room-requires
+short-room-requires c κs = search needs
 
-slice-aggregate-put-book : tie.Need-slice-aggregate-put-book
-slice-aggregate-put-book c = sym (c .before .no-book .ensures)
+slice-aggregate-put-checked : tie.Need-slice-aggregate-put-checked
+slice-aggregate-put-checked c = search needs
 
-put-book-requires : tie.Need-put-book-requires
-put-book-requires c κs =
-    let e = c .before .before in
-    let m = measured-at e in
-    (read-passed (m .before), m .measure .ensures, omega (arith, fits e, c .before .no-book .ensures))
-
-array-share-prefix-book : tie.Need-array-share-prefix-book
-array-share-prefix-book c = omega (arith, fits (c .before .before .before .before), made-long (c .before))
-
-slice-aggregate-check : tie.Need-slice-aggregate-check
-slice-aggregate-check c = sym (length-take-le _ _ (omega (arith, fits (c .before .before .before .before .before), made-long (c .before .before))))
-
-check-requires : tie.Need-check-requires
-check-requires c κs = search needs
-
-refused-requires-5 : tie.Need-refused-requires-5
-refused-requires-5 c κs = search needs
-
-returns-5 : tie.Need-returns-5
-returns-5 c =
-    let e = c .before in
-    let k = e .before in
-    let m = measured-at (k .before .before .before .before .before .before) in
-    refusal _ _ _ (of-book _ _ (asked (m .before .before)) (room k) (checked k)) (e .if5 .taken) _ (c .refused5 .ensures)
-
-slice-aggregate-copy : tie.Need-slice-aggregate-copy
-slice-aggregate-copy c = sym (made-long (c .before .before .before .before .before))
-
-copy-requires : tie.Need-copy-requires
-copy-requires c κs =
-    let k = c .before .before .before in
-    let e = k .before .before .before .before .before .before in
-    (omega (arith, fits e, made-long (k .before .before .before)), omega (arith, room k, long (measured-at e)))
+put-checked-requires : tie.Need-put-checked-requires
+put-checked-requires c κs = search needs
 
 same-length : tie.Need-same-length
 same-length c = search needs
 
+returns-5 : tie.Need-returns-5
+returns-5 c = search needs
+
+no-book-requires : tie.Need-no-book-requires
+no-book-requires c κs = search needs
+
+slice-aggregate-put-checked-2 : tie.Need-slice-aggregate-put-checked-2
+slice-aggregate-put-checked-2 c = search needs
+
+put-checked-requires-2 : tie.Need-put-checked-requires-2
+put-checked-requires-2 c κs =
+    let e = c .before .before .before .before in
+    let m = measured-at e in (
+      asked (m .before .before),
+      m .before .read-table .ensures,
+      m .measure .ensures,
+      omega (arith, fits e, c .before .before .no-book .ensures),
+      omega (arith, e .before .before .if2 .left),
+    )
+
+same-length-2 : tie.Need-same-length-2
+same-length-2 c = search needs
+
 returns-6 : tie.Need-returns-6
-returns-6 c =
-    let p = c .before in
-    let f = p .before .before .before in
-    let k = f .before in
-    let b = k .before .before .before in
-    let e = k .before .before .before .before .before .before in
-    let m = measured-at e in
-    let s = start e in
-    let t = s .args .t .now in
-    let z = sym (f .if5 .left) ∙ checked k in
-    success t (s .args .out .now) _ (of-book t _ (asked (m .before .before)) (room k) z) _ (sym (long m))
-    (copied (tableBook t) (b .before .before .no-book .result) (s .args .out .now) _ _ (long m)
-    (p .copy .ensures ∙ ap (λ (xs : List ℤ). written (s .args .out .now) 0 (m .measure .result .length)
-    (take (m .measure .result .length) (drop 0 xs))) (b .put-book .ensures)))
+returns-6 c = search needs
 
 pub convert-spec : {M : Type 1} → statement M
 convert-spec =
@@ -200,15 +142,13 @@ convert-spec =
     returns-3
     refused-requires-4
     returns-4
-    no-book-requires
-    slice-aggregate-put-book
-    put-book-requires
-    array-share-prefix-book
-    slice-aggregate-check
-    check-requires
-    refused-requires-5
-    returns-5
-    slice-aggregate-copy
-    copy-requires
+    short-room-requires
+    slice-aggregate-put-checked
+    put-checked-requires
     same-length
+    returns-5
+    no-book-requires
+    slice-aggregate-put-checked-2
+    put-checked-requires-2
+    same-length-2
     returns-6)

@@ -1,75 +1,61 @@
--- The stages still to be written, written over what stands there now, give the result.
+-- The first stage is written from the table, and the others after it are the same.
 -- Assumes nothing.
-use Prim.Native.Nat.{_+_, _*_, _-_, _≤_, _<_}
+use mathlib.Core.Path.{_≡_}
+use mathlib.Core.List.{List}
+use Prim.Native.Nat.{_-_, _<_}
 use native.Mathlib.Omega.{arith}
 use borrow.Author.Needs.{needs}
+use lib.IntN.{ℤ}
 use lib.ListN.{length}
 use Rattle.table_book.specs.Columns.{columnFrom}
 use Rattle.table_book.proofs.Entries.{column-long}
-use Rattle.table_book.proofs.Repeats.{Repeating, rep-start, rep-room, rep-step, rep-end}
+use Rattle.table_book.proofs.Lists.{row-fits}
+use Rattle.table_book.proofs.Repeats.{rep-none, rep-fits, rep-more}
 use Rattle.table_book.proofs.put_stages.Statement.{statement}
 use Rattle.table_book.proofs.put_stages.Tie as tie
 
-abbrev Inv-loop : tie.InvT-loop
-Inv-loop t z right body out₀ at m k₀ out k = Repeating out₀ at m body (columnFrom t right 0 body) out k
+abbrev stage : tie.Start → List ℤ
+stage s = columnFrom (s .args .t .now) (s .args .right) 0 (s .args .body)
 
-abbrev μ-loop : tie.MeasureT-loop
-μ-loop t z right body out₀ at m k₀ out k = m - k
+abbrev start : tie.After-put-lines → tie.Start
+start p = p .before .before .before .before
 
-sub-m : tie.Need-sub-m Inv-loop μ-loop
+stage-long : (s : tie.Start) → length (stage s) ≡ s .args .body
+stage-long s = column-long (s .args .t .now) (s .args .right) 0 (s .args .body)
+
+some : (c : tie.Else1) → 0 < c .before .before .args .z .h - 1
+some c = omega (arith, c .if1 .left)
+
+sub-m : tie.Need-sub-m
 sub-m c = search needs
 
-loop-holds : tie.Need-loop-holds Inv-loop μ-loop
-loop-holds c = rep-start _ _ _ _ _
+returns : tie.Need-returns
+returns c =
+    let s = c .before .before in
+    rep-none (s .args .out .now) (s .args .at) (s .args .z .h - 1) (s .args .body) (stage s) (c .if1 .taken)
 
-room : (l : tie.At-loop Inv-loop μ-loop) →
-    let s = l .before .before in
-    l .loop .k < s .args .z .h - 1 → s .args .at + l .loop .k * s .args .body + s .args .body ≤ length (l .loop .out)
-room l k = rep-room _ _ _ _ _ (l .before .before .pre .4) (l .loop .inv) k
-
-mul-put-lines : tie.Need-mul-put-lines Inv-loop μ-loop
-mul-put-lines c = search (needs, room (c .before .before) (c .before .loop-test .taken))
-
-add-put-lines : tie.Need-add-put-lines Inv-loop μ-loop
-add-put-lines c = search (needs, room (c .before .before) (c .before .loop-test .taken))
-
-put-lines-requires : tie.Need-put-lines-requires Inv-loop μ-loop
+put-lines-requires : tie.Need-put-lines-requires
 put-lines-requires c κs =
-    let s = c .before .before .before .before in
-    (s .pre .0, s .pre .1, omega (arith, s .pre .2), s .pre .3, room (c .before .before) (c .before .loop-test .taken))
+    let s = c .before .before .before in
+    (s .pre .0, s .pre .1, omega (arith, s .pre .2), s .pre .3, omega (arith, s .pre .4, row-fits 0 (s .args .z .h - 1) (s .args .body) (some (c .before))))
 
-add-k : tie.Need-add-k Inv-loop μ-loop
-add-k c = search needs
+sub-repeat : tie.Need-sub-repeat
+sub-repeat c = search needs
 
-loop-less : tie.Need-loop-less Inv-loop μ-loop
-loop-less c = search needs
+repeat-requires : tie.Need-repeat-requires
+repeat-requires c κs =
+    let p = c .before .before in
+    let s = start p in
+    rep-fits (s .args .out .now) (s .args .at) (s .args .z .h - 1) (s .args .body) (stage s) (p .before .before .if1 .left) (s .pre .4) (stage-long s) (p .put-lines .ensures)
 
-loop-again : tie.Need-loop-again Inv-loop μ-loop
-loop-again c =
-    let l = c .before .before .before .before in
-    let s = l .before .before in
-    rep-step _ _ _ _ _ (s .pre .4) (l .loop .inv) (column-long (s .args .t .now) (s .args .right) 0 (s .args .body))
-    (c .before .before .before .loop-test .taken) (c .before .put-lines .ensures)
+same-length : tie.Need-same-length
+same-length c = search needs
 
-same-length : tie.Need-same-length Inv-loop μ-loop
-same-length c = c .before .loop .inv .filling .long
-
-returns : tie.Need-returns Inv-loop μ-loop
-returns c = let s = c .before .before .before in rep-end _ _ _ _ _ (s .pre .4) (c .before .loop .inv) (omega arith)
+returns-2 : tie.Need-returns-2
+returns-2 c =
+    let p = c .before .before .before .before in
+    let s = start p in
+    rep-more (s .args .out .now) (s .args .at) (s .args .z .h - 1) (s .args .body) (stage s) (p .before .before .if1 .left) (s .pre .4) (stage-long s) (p .put-lines .ensures) (c .before .repeat .ensures)
 
 pub put-stages-spec : {M : Type 1} → statement M
-put-stages-spec =
-    tie.close
-    (tie.spec
-    Inv-loop
-    μ-loop
-    sub-m
-    loop-holds
-    mul-put-lines
-    add-put-lines
-    put-lines-requires
-    add-k
-    loop-less
-    loop-again
-    same-length
-    returns)
+put-stages-spec = tie.close (tie.spec sub-m returns put-lines-requires sub-repeat repeat-requires same-length returns-2)
