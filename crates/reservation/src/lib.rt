@@ -1,11 +1,12 @@
-// Reservations: ranks of one accepted record, for sixteen riders. A rank is held on asking and theirs on committing. A method takes a desk by value and
-// gives a call's number, or a rank; opening gives the next desk. What a granted call changes is written where the desk is lent.
+// Reservations: ranks of one accepted record, for sixteen riders. A rank is held on asking and theirs on committing. Each call takes a desk by value and
+// gives the next. Its number alone is had too, for a desk that is lent, where only what a granted call changes is written.
 ghost use mathlib.Core.Path.{_≡_};
 ghost use mathlib.Core.Bool.{not, _||_};
+ghost use Prim.Native.Nat.{_%_};
 ghost use lib.Dec.{eqb};
 ghost use lib.ListN.{getD, replicate};
 ghost use Rattle.model.specs.Questions.{firstNo};
-ghost use Rattle.reservation.specs.Reservations.{heldBy, committedBy, free, askQuestions, commitQuestions, cancelQuestions, openFor, answer};
+ghost use Rattle.reservation.specs.Reservations.{heldBy, committedBy, free, askQuestions, commitQuestions, cancelQuestions, openFor, holding, taking, answer, asking, committing, cancelling};
 
 // How many riders there are.
 const RIDERS: usize = 16;
@@ -21,7 +22,7 @@ pub struct Desk {
     pub committed: [u8; 16],
 }
 
-// The number of opening and the desk afterwards.
+// The number of a call and the desk afterwards.
 pub struct Answer {
     pub no: u32,
     pub desk: Desk,
@@ -58,7 +59,14 @@ fn differs(held: u8, committed: u8, rank: u8, apart: u8) -> u8
     0
 }
 
-// The number that each call of a rider asks for first.
+// A rank that is listed, as a byte: k is one, so no such rank is cut.
+fn low_byte(rank: usize) -> u8
+    ensures { λ r. ⌜ r ≡ rank % 256 ⌝ }
+{
+    (rank % 256) as u8
+}
+
+// The number that each call of a rider asks for first; of cancelling it is the whole.
 fn rider_number(rider: usize) -> u32
     ensures { λ r. ⌜ r ≡ firstNo cancelQuestions rider ⌝ }
 {
@@ -152,7 +160,28 @@ impl Desk {
         rider_number(rider)
     }
 
-    // A refused opening changes nothing.
+    // The rider holds the rank, and no other; 0 drops the hold. A number that is no rider's changes nothing.
+    fn holding(mut self, rider: usize, rank: u8) -> Desk
+        ensures { λ r. ⌜ r ≡ holding self rider rank ⌝ }
+    {
+        if rider < RIDERS {
+            self.held[rider] = rank;
+        }
+        self
+    }
+
+    // The rank that the rider held is theirs, and the hold has ended.
+    fn taking(self, rider: usize) -> Desk
+        ensures { λ r. ⌜ r ≡ taking self rider ⌝ }
+    {
+        let mut next = self.holding(rider, 0);
+        if rider < RIDERS {
+            next.committed[rider] = self.held[rider];
+        }
+        next
+    }
+
+    // A refused call changes nothing.
     fn answer(self, no: u32, next: Desk) -> Answer
         ensures { λ a. ⌜ a ≡ answer no next self ⌝ }
     {
@@ -160,6 +189,30 @@ impl Desk {
             return Answer { no: no, desk: self };
         }
         Answer { no: 0, desk: next }
+    }
+
+    // A granted ask drops the rider's earlier hold.
+    pub fn asking(self, rider: usize, rank: usize) -> Answer
+        ensures { λ a. ⌜ a ≡ asking self rider rank ⌝ }
+    {
+        let no = self.ask_number(rider, rank);
+        self.answer(no, self.holding(rider, low_byte(rank)))
+    }
+
+    // The rank held becomes the rider's.
+    pub fn committing(self, rider: usize) -> Answer
+        ensures { λ a. ⌜ a ≡ committing self rider ⌝ }
+    {
+        let no = self.commit_number(rider);
+        self.answer(no, self.taking(rider))
+    }
+
+    // A hold is dropped, a commitment never.
+    pub fn cancelling(self, rider: usize) -> Answer
+        ensures { λ a. ⌜ a ≡ cancelling self rider ⌝ }
+    {
+        let no = rider_number(rider);
+        self.answer(no, self.holding(rider, 0))
     }
 
     // Opening, of the number and the k that accepting the record gives.
