@@ -5,3 +5,4 @@ pub mod Shape
 pub mod Demands
 pub mod Difference
 pub mod Bytes
+pub mod Empty

@@ -12,14 +12,14 @@ use lib.Seq.{getD-set-same, getD-set-other}
 use Rattle.model.specs.Lists.{upFrom}
 use Rattle.model.specs.Model.{Words, scale, stateCount, togo, actionCount, action}
 use Rattle.model.specs.Recursion.{bestOf, through, feasible}
-use Rattle.laws.specs.Members.{Every, every-in, in-every}
-use Rattle.laws.specs.Best.{best-in}
+use Rattle.laws.specs.Members.{In, Every, every-in, in-every}
+use Rattle.laws.specs.Best.{best-in, best-cases}
 use Rattle.accepted.specs.Options.{Feasible, Alive}
 use Rattle.sets.specs.Sets.{free, free-all, free-in}
 use Rattle.feasible.specs.Barred.{Leaves}
 use Rattle.table.specs.Table.{rowOf, TableOf}
 use Rattle.table.proofs.Better.{best-same}
-use Rattle.build.specs.Best.{bestAt, secondAt, RowsOf, BarredAt, BestTo, SecondTo}
+use Rattle.build.specs.Best.{bestAt, secondAt, RowsOf, BestTo, SecondTo}
 
 -- the table has the rows
 pub table-rows : (ws : Words) (q v : List ℤ) → TableOf ws q v → RowsOf ws q
@@ -51,6 +51,14 @@ pub none-best : (f : ℕ → ℤ) (xs : List ℕ) → Every (λ c. c < 8) xs →
 none-best f [] h e = refl
 none-best f (x ∷ xs) h e = absurd (omega (arith, e, every-in (λ c. c < 8) (x ∷ xs) h (bestOf f (x ∷ xs)) (best-in f (x ∷ xs) x (inl refl))))
 
+-- the first best of some actions, or 255, fits a byte
+pub best-byte : (f : ℕ → ℤ) (xs : List ℕ) → ((c : ℕ) → In c xs → c < 8) → bestOf f xs < 256
+best-byte f xs h = go (best-cases f xs)
+  where
+    go : (bestOf f xs ≡ 255) ⊎ In (bestOf f xs) xs → bestOf f xs < 256
+    go (inl e) = omega (arith, e)
+    go (inr i) = omega (arith, h (bestOf f xs) i)
+
 -- what is found of the states below n, where a list of k policies is asked for
 abbrev pub Found : Words → ℕ → ℕ → List ℕ → Type 0
 Found ws k n xs = BestTo ws n xs × (1 < k → SecondTo ws n xs)
@@ -62,7 +70,7 @@ found-none ws k xs l = (
 )
 
 -- one state more
-module _ (ws : Words) (k n a m : ℕ) (xs : List ℕ) (h : n < 64) (t : Found ws k n xs) (a-is : a ≡ bestAt ws n) (m-is : BarredAt ws n m) where
+module _ (ws : Words) (k n a m : ℕ) (xs : List ℕ) (h : n < 64) (t : Found ws k n xs) (a-is : a ≡ bestAt ws n) (m-is : Leaves ws n m) where
   -- its first best action and its set
   abbrev ys : List ℕ
   ys = set (set xs n a) (128 + n) m
@@ -83,11 +91,11 @@ module _ (ws : Words) (k n a m : ℕ) (xs : List ℕ) (h : n < 64) (t : Found ws
       ∙ getD-set-same xs n a 0 (omega (arith, t .0 .long)) ∙ a-is ∙ ap (bestAt ws) (sym l)
   first-is p (inr l) = other p (λ e. omega arith) (λ e. omega arith) ∙ t .0 .best-is p l
 
-  barred-is : (p : ℕ) → (p ≡ n) ⊎ (p < n) → BarredAt ws p (getD ys (128 + p) 0)
+  barred-is : (p : ℕ) → (p ≡ n) ⊎ (p < n) → Leaves ws p (getD ys (128 + p) 0)
   barred-is p (inl l) =
-      subst (λ (q : ℕ). BarredAt ws q (getD ys (128 + q) 0)) (sym l)
-      (subst (BarredAt ws n) (sym (getD-set-same (set xs n a) (128 + n) m 0 (omega (arith, length-set xs n a, t .0 .long)))) m-is)
-  barred-is p (inr l) = subst (BarredAt ws p) (sym (other (128 + p) (λ e. omega arith) (λ e. omega arith))) (t .0 .barred p l)
+      subst (λ (q : ℕ). Leaves ws q (getD ys (128 + q) 0)) (sym l)
+      (subst (Leaves ws n) (sym (getD-set-same (set xs n a) (128 + n) m 0 (omega (arith, length-set xs n a, t .0 .long)))) m-is)
+  barred-is p (inr l) = subst (Leaves ws p) (sym (other (128 + p) (λ e. omega arith) (λ e. omega arith))) (t .0 .barred p l)
 
   first-more : BestTo ws (n + 1) ys
   first-more = record {
@@ -104,7 +112,7 @@ module _ (ws : Words) (k n a m : ℕ) (xs : List ℕ) (h : n < 64) (t : Found ws
     record {
       long = length-set ys (64 + n) d ∙ long;
       best-is = λ p l. getD-set-other ys (64 + n) p d 0 (λ i. absurd (omega arith)) ∙ first-more .best-is p l;
-      barred = λ p l. subst (BarredAt ws p) (sym (getD-set-other ys (64 + n) (128 + p) d 0 (λ i. absurd (omega arith)))) (first-more .barred p l);
+      barred = λ p l. subst (Leaves ws p) (sym (getD-set-other ys (64 + n) (128 + p) d 0 (λ i. absurd (omega arith)))) (first-more .barred p l);
     },
     λ j p l. go p (eq-or-lt-of-le (le p l)),
   )

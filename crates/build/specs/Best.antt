@@ -26,16 +26,11 @@ pub record RowsOf (ws : Words) (q : List ℤ) : Type 0 where
   pub through-is : (p c : ℕ) → p < stateCount ws → Feasible ws p c
       → rowOf q p c ≡ through (scale ws) (action ws) (feasible ws) (togo ws p) p c
 
--- the set has the actions of state p that no policy can take, in a byte
-pub record BarredAt (ws : Words) (p mask : ℕ) : Type 0 where
-  pub leaves : Leaves ws p mask
-  pub small : mask < 256
-
 -- xs has the first best actions of the states below n and, 128 places further on, the sets of those that no policy can take
 pub record BestTo (ws : Words) (n : ℕ) (xs : List ℕ) : Type 0 where
   pub long : length xs ≡ 192
   pub best-is : (p : ℕ) → p < n → getD xs p 0 ≡ bestAt ws p
-  pub barred : (p : ℕ) → p < n → BarredAt ws p (getD xs (128 + p) 0)
+  pub barred : (p : ℕ) → p < n → Leaves ws p (getD xs (128 + p) 0)
 
 -- and, 64 places further on, their second best actions
 abbrev pub SecondTo : Words → ℕ → List ℕ → Type 0

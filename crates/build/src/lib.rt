@@ -19,12 +19,6 @@ ghost use Rattle.nexts.specs.Nexts.{NextsOf};
 ghost use Rattle.build.specs.Best.{RowsOf, BestOf, SecondOf};
 ghost use Rattle.build.specs.Walk.{walkBy, chosen, ActionOrNone, Usable, Stepped, Walked, Own, Passed};
 
-fn zeros() -> [usize; 192]
-    ensures { λ r. ⌜ length r ≡ 192 ⌝ }
-{
-    [0; 192]
-}
-
 // The first best action of state p of the first n that are neither in the set `off` nor c, the first best of those that are not in the set; 255 where
 // there is none.
 fn second_best(q: &[i64; 512], p: usize, n: usize, off: u8, c: usize) -> usize
@@ -38,39 +32,45 @@ fn second_best(q: &[i64; 512], p: usize, n: usize, off: u8, c: usize) -> usize
     table::best_action(q, p, n, own)
 }
 
-// By the table q of the costs of the actions, for each state p: at p its first best action, at 64 + p the first best of its others, 255 where there is
-// none, and at 128 + p the set of its actions that no policy can take, as `off` has it. A list of one policy needs no second best actions: they are left
-// out where k is 1.
-pub fn best_actions(b: &[i32], z: Sizes, q: &[i64; 512], off: &[u8; 64], k: usize) -> [usize; 192]
-    requires { ⌜ Checked (now b) z × RowsOf (now b) (now q) × BarredOf (now b) (now off) ⌝ }
-    ensures { λ r. ⌜ BestOf (now (b .entry)) r × (1 < k → SecondOf (now (b .entry)) r) ⌝ }
+// Fills `best`, by the table q of the costs of the actions, for each state p: at p its first best action, at 64 + p the first best of its others, 255 where
+// there is none, and at 128 + p the set of its actions that no policy can take, as `off` has it. A list of one policy needs no second best actions: they
+// are left out where k is 1.
+pub fn best_actions(
+    b: &[i32],
+    z: Sizes,
+    q: &[i64; 512],
+    off: &[u8; 64],
+    k: usize,
+    best: &mut [u8; 192],
+)
+    requires { ⌜ Checked (now b) z × RowsOf (now b) (now q) × BarredOf (now b) (now off) × (length (now best) ≡ 192) ⌝ }
+    ensures { λ _. ⌜ BestOf (now (b .entry)) (now (best .exit)) × (1 < k → SecondOf (now (b .entry)) (now (best .exit))) ⌝ }
 {
     let s = z.s;
-    let mut best = zeros();
     let mut p: usize = 0;
     while p < s {
         let n = index::count(b, z, p);
         let mask = off[p];
         let c = table::best_action(q, p, n, mask);
-        best[p] = c;
-        best[128 + p] = sets::wide8(mask);
+        best[p] = c as u8;
+        best[128 + p] = mask;
         if 1 < k {
-            best[64 + p] = second_best(q, p, n, mask, c);
+            let d = second_best(q, p, n, mask, c);
+            best[64 + p] = d as u8;
         }
         p = p + 1;
     }
-    best
 }
 
 // The action at state s, which is not before state r: c at r, and that of `best` after it.
-fn choice(best: &[usize; 192], r: usize, c: usize, s: usize) -> usize
+fn choice(best: &[u8; 192], r: usize, c: usize, s: usize) -> usize
     requires { ⌜ s < 64 ⌝ }
     ensures { λ a. ⌜ a ≡ cond (eqb s r) c (getD (now (best .entry)) s 0) ⌝ }
 {
     if s == r {
         return c;
     }
-    best[s]
+    sets::wide8(best[s])
 }
 
 // The byte of a state, and the states known to be reached once its next states are too.
@@ -141,7 +141,7 @@ fn copy_before(plan: &[u8], r: usize, out: &mut [u8])
 pub fn build(
     b: &[i32],
     nx: &[u64; 512],
-    best: &[usize; 192],
+    best: &[u8; 192],
     plan: &[u8],
     r: usize,
     c: usize,

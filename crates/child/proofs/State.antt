@@ -68,7 +68,7 @@ module _ (ws : Words) (ok : bookNumber ws ≡ 0) (q : List ℤ) (rows : RowsOf w
           go : (e .split ≡ p) ⊎ (e .split < p) → nextBy ws q best (e .split) p m ≡ bestOf cost (left ws p (maskAt e p))
           go (inl h) =
               ap (λ (t : Bool). cond t (bestOf (rowOf q p) (free m (free (getD best (128 + p) 0) (upFrom 0 (actionCount ws p))))) (getD best (64 + p) 0)) (eq-eqb (e .split) p h)
-              ∙ row-best ws p (getD best (128 + p) 0) (bo .barred p state .leaves) q rows state m ∙ ap (λ (m : ℕ). bestOf cost (left ws p m)) mask-at
+              ∙ row-best ws p (getD best (128 + p) 0) (bo .barred p state) q rows state m ∙ ap (λ (m : ℕ). bestOf cost (left ws p m)) mask-at
           go (inr l) =
               ap (λ (t : Bool). cond t (bestOf (rowOf q p) (free m (free (getD best (128 + p) 0) (upFrom 0 (actionCount ws p))))) (getD best (64 + p) 0))
               (ne-eqb (e .split) p (λ h. omega arith))

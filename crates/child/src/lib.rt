@@ -72,7 +72,7 @@ fn next_action(
     b: &[i32],
     z: Sizes,
     q: &[i64; 512],
-    best: &[usize; 192],
+    best: &[u8; 192],
     split: usize,
     p: usize,
     mask: u8,
@@ -82,10 +82,10 @@ fn next_action(
 {
     if split == p {
         let n = index::count(b, z, p);
-        let all = sets::union8(mask, best[128 + p] as u8);
+        let all = sets::union8(mask, best[128 + p]);
         return table::best_action(q, p, n, all);
     }
-    best[64 + p]
+    sets::wide8(best[64 + p])
 }
 
 // The child of e at state p, if e reaches p and an action is left there.
@@ -93,7 +93,7 @@ pub fn child_at(
     b: &[i32],
     z: Sizes,
     q: &[i64; 512],
-    best: &[usize; 192],
+    best: &[u8; 192],
     w: &[usize; 64],
     plan: &[u8],
     e: Parent,

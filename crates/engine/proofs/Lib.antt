@@ -3,4 +3,5 @@ pub mod States
 pub mod Parts
 pub mod Joins
 pub mod Listing
+pub mod Turns
 pub mod Ranking

@@ -180,8 +180,8 @@ module _ (ws : Words) (ok : bookNumber ws ≡ 0) (k : ℕ) where
             next j (firstEntry S pool) (f .0) costs plans (subst (λ (es : List Entry). Listing ws k first costs₀ plans₀ j es costs plans) (f .1) l) more
             (omega (arith, l .costs-long)) (omega (arith, l .plans-long′)) es cs ps (he ∙ ap (splitPool ws k) (f .1)) hc hp
 
-        -- after the last none is split
-        pub pool-last : k ≤ j + 1 → Listing ws k first costs₀ plans₀ (j + 1) (entries S pool) cs ps
-        pool-last last =
-            swapped (j + 1) (splitPool ws k (entries S pool)) (entries S pool) cs ps
-            (done (j + 1) (splitPool ws k (entries S pool)) last ∙ sym (done (j + 1) (entries S pool) last)) (l .right) (pool-next refl)
+        -- after the last none is split: whatever waits then, nothing more is listed
+        pub pool-last : {es : List Entry} → k ≤ j + 1 → Every (Right ws) es → Listing ws k first costs₀ plans₀ (j + 1) es cs ps
+        pool-last {es} last rights =
+            swapped (j + 1) (splitPool ws k (entries S pool)) es cs ps
+            (done (j + 1) (splitPool ws k (entries S pool)) last ∙ sym (done (j + 1) es last)) rights (pool-next refl)

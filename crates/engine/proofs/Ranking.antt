@@ -1,7 +1,7 @@
 -- The list of the search is the ranking, and the search begins with its first policy.
 -- Assumes nothing.
 use mathlib.Core.Path.{_≡_, refl, sym, ap, _∙_, subst}
-use mathlib.Core.Bool.{true}
+use mathlib.Core.Bool.{true, false}
 use mathlib.Core.List.{List, [], _∷_, map}
 use Prim.Native.Nat.{ℕ}
 use native.Mathlib.Omega.{arith}
@@ -15,11 +15,13 @@ use Rattle.model.specs.Model.{Words, scale, stateCount, togo, action}
 use Rattle.model.specs.Questions.{bookNumber}
 use Rattle.model.specs.Policy.{Policy, hasPolicy}
 use Rattle.model.specs.Recursion.{feasible}
-use Rattle.model.specs.Path.{taken}
+use Rattle.model.specs.Path.{taken, policyCost}
+use Rattle.model.specs.Order.{rankingCosts}
 use Rattle.model.specs.Calls.{over}
 use Rattle.laws.specs.Members.{Every}
 use Rattle.laws.specs.First.{first-cost}
 use Rattle.accepted.specs.Options.{Alive}
+use Rattle.accepted.specs.Empty.{none-listed}
 use Rattle.accepted.specs.Shape.{shape, togo-start, lists, has-alive}
 use Rattle.accepted.specs.Demands.{bestPolicy, best-policy, to-go-fits}
 use Rattle.book.proofs.Words.{fits64}
@@ -52,9 +54,9 @@ module _ (ws : Words) (ok : bookNumber ws ≡ 0) (has : hasPolicy ws ≡ true) w
       ∙ sym (first-cost (scale ws) (stateCount ws) (action ws) (togo ws) (shape ws ok) (Alive ws) (feasible ws) (lists ws ok first)))
       ∙ read64 (costOf ws (bestPolicy ws)) (small .sfits)
 
-  pub ranked : {m : ℕ} {es : List Entry} {costs costs′ : List ℤ} {plans plans′ : List ℕ} (k n : ℕ) → m ≡ k → es ≡ firstCandidate ws ∷ []
-      → Found (runEntries ws m m es) n costs costs′ plans plans′ → Ranked ws k n costs costs′ plans plans′
-  ranked {m} {es} {costs} {costs′} {plans} {plans′} k n all h f =
+  pub ranked : {costs costs′ : List ℤ} {plans plans′ : List ℕ} (k n : ℕ) → Found (runEntries ws k k (firstCandidate ws ∷ [])) n costs costs′ plans plans′
+      → Ranked ws k n costs costs′ plans plans′
+  ranked {costs} {costs′} {plans} {plans′} k n f =
       record {
         count = f .count ∙ ap length run-is ∙ sym (length-map L planOf) ∙ ap length (lists-ranking ws ok first k);
         costs-are = f .costs-are ∙ ap (λ (es : List Entry). over (map costIn es) costs) run-is ∙ ap (λ (zs : List ℤ). over zs costs) (lists-costs ws ok first k);
@@ -65,5 +67,16 @@ module _ (ws : Words) (ok : bookNumber ws ≡ 0) (has : hasPolicy ws ≡ true) w
       L : List Entry
       L = runEntries ws k k (startEntry ws ok ∷ [])
 
-      run-is : runEntries ws m m es ≡ runEntries ws k k (startEntry ws ok ∷ [])
-      run-is = (λ t. runEntries ws (all t) (all t) ((h ∙ ap (λ (e : Entry). e ∷ []) start-is) t))
+      run-is : runEntries ws k k (firstCandidate ws ∷ []) ≡ runEntries ws k k (startEntry ws ok ∷ [])
+      run-is = ap (λ (e : Entry). runEntries ws k k (e ∷ [])) start-is
+
+-- a book without a policy: nothing is listed, and nothing written
+pub none-ranked : {costs : List ℤ} {plans : List ℕ} (ws : Words) (k : ℕ) → hasPolicy ws ≡ false → Ranked ws k 0 costs costs plans plans
+unfolding rankingCosts
+none-ranked {costs} {plans} ws k e =
+    let none = sym (none-listed ws k e) in
+    record {
+      count = ap length none;
+      costs-are = ap (λ (ps : List Policy). over (map (policyCost ws) ps) costs) none;
+      plans-are = ap (λ (ps : List Policy). over (forEach (λ (bs : Policy). bs) ps) plans) none;
+    }

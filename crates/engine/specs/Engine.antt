@@ -3,7 +3,7 @@
 use mathlib.Core.Path.{_≡_}
 use mathlib.Core.Bool.{Bool, not, _&&_}
 use mathlib.Core.List.{List, [], _∷_, map}
-use Prim.Native.Nat.{ℕ, _*_, _≤_}
+use Prim.Native.Nat.{ℕ, _*_, _≤_, _<_}
 use lib.IntN.{ℤ, pos}
 use lib.Dec.{eqb}
 use lib.ListN.{length, getD, take}
@@ -13,11 +13,12 @@ use Rattle.model.specs.Calls.{over}
 use Rattle.model.specs.Model.{Words, stateCount}
 use Rattle.model.specs.Policy.{Policy}
 use Rattle.accepted.specs.Demands.{bestPolicy}
+use Rattle.accepted.specs.Options.{Alive}
 use Rattle.laws.specs.Members.{Every}
 use Rattle.book.specs.declared.Sizes.{Sizes}
 use Rattle.index.specs.Index.{Indexed}
 use Rattle.nexts.specs.Nexts.{NextsOf}
-use Rattle.build.specs.Best.{RowsOf, BestOf}
+use Rattle.build.specs.Best.{RowsOf, BestOf, SecondOf}
 use Rattle.pool.specs.Entries.{entries, firstEntry, Formed, beyondOf}
 use Rattle.pool.specs.declared.Pool.{Pool}
 use Rattle.splits.specs.Search.{admit}
@@ -58,19 +59,10 @@ pub record ParentIs (e : Parent) (costs : List ℤ) (splits barred : List ℕ) (
   pub split-is : e .split ≡ getD splits i 0
   pub mask-is : e .mask ≡ getD barred i 0
 
--- the first candidate of p can be split: bs are its bytes, and what is stored of it is right
-pub record Splittable (ws : Words) (bs : Policy) (p : Pool) : Type 0 where
-  pub formed : Formed p
-  pub some : 1 ≤ p .count
-  pub right : Right ws (firstEntry (stateCount ws) p)
-  pub bytes-are : bs ≡ firstEntry (stateCount ws) p .plan
-
--- what the search asks: every candidate that waits is right, and there is room for as many as may wait
-pub record Searchable (ws : Words) (p : Pool) (costs : List ℤ) (plans : List ℕ) : Type 0 where
-  pub formed : Formed p
-  pub rights : Every (Right ws) (entries (stateCount ws) p)
-  pub costs-room : p .most ≤ length costs
-  pub plans-room : p .most * stateCount ws ≤ length plans
+-- there is room for k policies of s bytes and their costs
+pub record Roomy (k s : ℕ) (costs : List ℤ) (plans : List ℕ) : Type 0 where
+  pub costs-room : k ≤ length costs
+  pub plans-room : k * s ≤ length plans
 
 -- the bytes of the policies of entries, one after the other
 abbrev pub plansIn : List Entry → List ℕ
@@ -85,6 +77,14 @@ pub record Found (l : List Entry) (n : ℕ) (costs costs′ : List ℤ) (plans p
 -- all policies, of which the first takes the first best action at each state
 abbrev pub firstCandidate : Words → Entry
 firstCandidate ws = record { cost = costOf ws (bestPolicy ws); plan = bestPolicy ws; split = 0; mask = 0 }
+
+-- a search for k policies can begin: the book has one, the first costs `cost`, and where more are asked for the second best actions are known
+pub record Startable (ws : Words) (cost : ℤ) (k : ℕ) (best : List ℕ) : Type 0 where
+  pub some : Alive ws 0
+  pub cost-is : cost ≡ firstCandidate ws .cost
+  pub most-low : 1 ≤ k
+  pub most-high : k ≤ 64
+  pub seconds : 1 < k → SecondOf ws best
 
 -- the list for a model and k stands at the front of the two slices, and the rest of both is as before
 pub record Ranked (ws : Words) (k n : ℕ) (costs costs′ : List ℤ) (plans plans′ : List ℕ) : Type 0 where

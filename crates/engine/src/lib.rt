@@ -2,7 +2,7 @@
 // left of its set is split, at each state that it reaches from its own split state on. A candidate that K others come before is let go: no policy of
 // its set is among the first K.
 //
-// The pool goes from step to step by value. What is read of the book is lent: x (where each state stands), nx (the next states of each action), q (the
+// What is read of the book is lent: x (where each state stands), nx (the next states of each action), q (the
 // cost of each action) and best (the first and the second best action of each state, and its actions that no policy can take).
 use book::Sizes;
 use child::Child;
@@ -19,11 +19,11 @@ ghost use Rattle.model.specs.Policy.{hasPolicy};
 ghost use Rattle.accepted.specs.Options.{Feasible, Alive};
 ghost use Rattle.index.specs.Index.{Checked};
 ghost use Rattle.nexts.specs.Nexts.{NextsOf};
-ghost use Rattle.build.specs.Best.{BestOf, SecondOf};
+ghost use Rattle.build.specs.Best.{BestOf};
 ghost use Rattle.build.specs.Walk.{walkBy, chosen, Usable, Walked};
-ghost use Rattle.pool.specs.Entries.{entries, Slots, Formed, Holding};
+ghost use Rattle.pool.specs.Entries.{entries, Slots, Formed};
 ghost use Rattle.stored.specs.Runs.{runEntries};
-ghost use Rattle.engine.specs.Engine.{Ready, RowOf, mayEnter, splitPool, ParentIs, Splittable, Searchable, Found, firstCandidate, Ranked};
+ghost use Rattle.engine.specs.Engine.{Ready, RowOf, mayEnter, ParentIs, Startable, Roomy, Found, firstCandidate, Ranked};
 
 fn zeros() -> [u8; 64]
     ensures { λ r. ⌜ length r ≡ 64 ⌝ }
@@ -31,25 +31,24 @@ fn zeros() -> [u8; 64]
     [0; 64]
 }
 
-// A row that begins with the bytes of the policy that has those of `plan` before state p, takes action c at p and first best actions after it. `from`
-// is the set of the states that the bytes before p reach.
+// Fills the row with the bytes of the policy that has those of `plan` before state p, takes action c at p and first best actions after it. `from` is
+// the set of the states that the bytes before p reach.
 fn row_of(
     b: &[i32],
     z: Sizes,
     nx: &[u64; 512],
-    best: &[usize; 192],
+    best: &[u8; 192],
     plan: &[u8],
     p: usize,
     c: usize,
     from: u64,
-) -> [u8; 64]
-    requires { ⌜ Checked (now b) z × NextsOf (now b) (now nx) × BestOf (now b) (now best) × Usable (now b) (now plan) p × (p < stateCount (now b)) × Feasible (now b) p c × Walked (now b) (now plan) p from ⌝ }
-    ensures { λ r. ⌜ RowOf (walkBy (action (now (b .entry))) (chosen (now (b .entry)) (now (plan .entry)) p c) (stateCount (now (b .entry))) 0 (0 ∷ [])) r ⌝ }
+    row: &mut [u8],
+)
+    requires { ⌜ Checked (now b) z × NextsOf (now b) (now nx) × BestOf (now b) (now best) × Usable (now b) (now plan) p × (p < stateCount (now b)) × Feasible (now b) p c × Walked (now b) (now plan) p from × (length (now row) ≡ 64) ⌝ }
+    ensures { λ _. ⌜ RowOf (walkBy (action (now (b .entry))) (chosen (now (b .entry)) (now (plan .entry)) p c) (stateCount (now (b .entry))) 0 (0 ∷ [])) (now (row .exit)) ⌝ }
 {
     let s = z.s;
-    let mut row = zeros();
     build::build(b, nx, best, plan, p, c, from, &mut row[..s]);
-    row
 }
 
 // Is there a child, and may it be kept where n of k wait? The bytes of one that costs more than the last of k are not needed.
@@ -82,89 +81,19 @@ fn first_of<'a>(
     }
 }
 
-// The first candidate, whose bytes are `plan`, is taken away, and its children join the others: at each state from its split state on there is at most one.
-fn split_first(
-    b: &[i32],
-    z: Sizes,
-    x: &[usize; 192],
-    nx: &[u64; 512],
-    q: &[i64; 512],
-    best: &[usize; 192],
-    plan: &[u8],
-    mut pool: Pool,
-) -> Pool
-    requires { ⌜ Ready (now b) z (now x) (now nx) (now q) (now best) × Splittable (now b) (now plan) pool × SecondOf (now b) (now best) ⌝ }
-    ensures { λ r. ⌜ Holding (stateCount (now (b .entry))) (splitPool (now (b .entry)) (pool .most) (entries (stateCount (now (b .entry))) pool)) pool r ⌝ }
-{
-    let s = z.s;
-    let k = pool.most;
-    let e = first_of(&pool.costs, &pool.splits, &pool.barred, &pool.order);
-    let count = pool.count;
-    pool::move_back(&mut pool.order, count);
-    pool.count = count - 1;
-    let w = reach::reach_weights(b, z, x, plan);
-    let mut p = e.split;
-    let mut reach = build::reached_before(b, nx, plan, p);
-    while p < s {
-        let d = child::child_at(b, z, q, best, &w, plan, e, p);
-        let cost = d.cost;
-        let state = p;
-        let from = reach;
-        reach = build::pass_state(b, nx, plan, state, from);
-        p = p + 1;
-        let n = pool.count;
-        if may_enter(&pool.costs, &pool.order, n, k, d) {
-            let row = row_of(b, z, nx, best, plan, state, d.action, from);
-            let i = pool::place(&pool.costs, &pool.plans, &pool.order, n, s, cost, &row);
-            if i < k {
-                let at = pool::spare_place(n, k);
-                let slot = pool::slot_at(&pool.order, at);
-                pool.costs[slot] = cost;
-                pool::write_row(&mut pool.plans, slot, s, &row);
-                pool.splits[slot] = state as u8;
-                pool.barred[slot] = d.mask;
-                pool::move_up(&mut pool.order, i, at);
-                pool.count = at + 1;
-            }
-        }
+// No candidate is listed yet.
+fn no_parent() -> Parent {
+    Parent {
+        cost: 0,
+        split: 0,
+        mask: 0,
     }
-    pool
 }
 
-// The first policies by the search from the pool, as many as may wait in it; gives how many there are. The last that is listed is not split.
-fn search(
-    b: &[i32],
-    z: Sizes,
-    x: &[usize; 192],
-    nx: &[u64; 512],
-    q: &[i64; 512],
-    best: &[usize; 192],
-    mut pool: Pool,
-    costs: &mut [i64],
-    plans: &mut [u8],
-) -> usize
-    requires { ⌜ Ready (now b) z (now x) (now nx) (now q) (now best) × Searchable (now b) pool (now costs) (now plans) × (1 < pool .most → SecondOf (now b) (now best)) ⌝ }
-    ensures { λ r. ⌜ Found (runEntries (now (b .entry)) (pool .most) (pool .most) (entries (stateCount (now (b .entry))) pool)) r (now (costs .entry)) (now (costs .exit)) (now (plans .entry)) (now (plans .exit)) ⌝ }
+fn no_weights() -> [usize; 64]
+    ensures { λ r. ⌜ length r ≡ 64 ⌝ }
 {
-    let k = pool.most;
-    let s = z.s;
-    let mut j: usize = 0;
-    while j < k {
-        if pool.count == 0 {
-            return j;
-        }
-        let slot = pool::slot_at(&pool.order, 0);
-        let cost = pool.costs[slot];
-        costs[j] = cost;
-        let at = j * s;
-        let to = at + s;
-        pool::read_row(&pool.plans, slot, s, &mut plans[at..to]);
-        j = j + 1;
-        if j < k {
-            pool = split_first(b, z, x, nx, q, best, &plans[at..to], pool);
-        }
-    }
-    j
+    [0; 64]
 }
 
 // The pool of at most k with the first candidate: all policies, of which the first takes the first best actions and costs `cost`.
@@ -172,30 +101,121 @@ fn first_pool(
     b: &[i32],
     z: Sizes,
     nx: &[u64; 512],
-    best: &[usize; 192],
+    best: &[u8; 192],
     cost: i64,
     k: usize,
 ) -> Pool
     requires { ⌜ Checked (now b) z × NextsOf (now b) (now nx) × BestOf (now b) (now best) × Alive (now b) 0 × (cost ≡ firstCandidate (now b) .cost) × (1 ≤ k) × (k ≤ 64) ⌝ }
     ensures { λ r. ⌜ Formed r × (r .most ≡ k) × (entries (stateCount (now (b .entry))) r ≡ firstCandidate (now (b .entry)) ∷ []) ⌝ }
 {
-    let first = best[0];
+    let first = sets::wide8(best[0]);
     let none = zeros();
-    let row = row_of(b, z, nx, best, &none, 0, first, 1);
+    let mut row = zeros();
+    row_of(b, z, nx, best, &none, 0, first, 1, &mut row);
     pool::single(k, z.s, cost, &row)
 }
 
-// The first k policies of a checked book that has one, and their costs, at the front of the lent slices; gives how many there are.
+// The first k policies by the search from the first candidate, whose policy costs `cost`; gives how many there are. In a turn either the next policy is
+// listed and its candidate taken away, or the listed candidate is split at state p, and its child there, if there is one, joins those that wait. The last
+// that is listed is not split. The pool stays where it is: handing it on would copy it for every listed policy.
+fn search(
+    b: &[i32],
+    z: Sizes,
+    x: &[usize; 192],
+    nx: &[u64; 512],
+    q: &[i64; 512],
+    best: &[u8; 192],
+    cost: i64,
+    k: usize,
+    costs: &mut [i64],
+    plans: &mut [u8],
+) -> usize
+    requires { ⌜ Ready (now b) z (now x) (now nx) (now q) (now best) × Startable (now b) cost k (now best) × Roomy k (stateCount (now b)) (now costs) (now plans) ⌝ }
+    ensures { λ r. ⌜ Found (runEntries (now (b .entry)) k k (firstCandidate (now (b .entry)) ∷ [])) r (now (costs .entry)) (now (costs .exit)) (now (plans .entry)) (now (plans .exit)) ⌝ }
+{
+    let s = z.s;
+    let mut pool = first_pool(b, z, nx, best, cost, k);
+    let mut e = no_parent();
+    let mut w = no_weights();
+    let mut reach: u64 = 0;
+    let mut at: usize = 0;
+    let mut j: usize = 0;
+    let mut p = s;
+    while j < k {
+        if p == s {
+            let count = pool.count;
+            if count == 0 {
+                return j;
+            }
+            e = first_of(&pool.costs, &pool.splits, &pool.barred, &pool.order);
+            let least = e.cost;
+            costs[j] = least;
+            at = j * s;
+            let to = at + s;
+            let slot = pool::slot_at(&pool.order, 0);
+            pool::read_row(&pool.plans, slot, s, &mut plans[at..to]);
+            pool::move_back(&mut pool.order, count);
+            pool.count = count - 1;
+            j = j + 1;
+            if j < k {
+                reach::reach_weights(b, z, x, &plans[at..to], &mut w);
+                p = e.split;
+                reach = build::reached_before(b, nx, &plans[at..to], p);
+            }
+        } else {
+            let to = at + s;
+            let d = child::child_at(b, z, q, best, &w, &plans[at..to], e, p);
+            let more = d.cost;
+            let state = p;
+            let from = reach;
+            reach = build::pass_state(b, nx, &plans[at..to], state, from);
+            p = p + 1;
+            let n = pool.count;
+            if may_enter(&pool.costs, &pool.order, n, k, d) {
+                let mut row = zeros();
+                row_of(b, z, nx, best, &plans[at..to], state, d.action, from, &mut row);
+                let i = pool::place(&pool.costs, &pool.plans, &pool.order, n, s, more, &row);
+                if i < k {
+                    let last = pool::spare_place(n, k);
+                    let slot = pool::slot_at(&pool.order, last);
+                    pool.costs[slot] = more;
+                    pool::write_row(&mut pool.plans, slot, s, &row);
+                    pool.splits[slot] = state as u8;
+                    pool.barred[slot] = d.mask;
+                    pool::move_up(&mut pool.order, i, last);
+                    pool.count = last + 1;
+                }
+            }
+        }
+    }
+    j
+}
+
+fn no_best() -> [u8; 192]
+    ensures { λ r. ⌜ length r ≡ 192 ⌝ }
+{
+    [0; 192]
+}
+
+// The first k policies of a checked book and their costs, at the front of the lent slices; gives how many there are, none where the book has no policy.
 pub fn list(b: &[i32], k: usize, costs: &mut [i64], plans: &mut [u8]) -> usize
-    requires { ⌜ (bookNumber (now b) ≡ 0) × (hasPolicy (now b) ≡ true) × (1 ≤ k) × (k ≤ 64) × (k ≤ length (now costs)) × (k * stateCount (now b) ≤ length (now plans)) ⌝ }
+    requires { ⌜ (bookNumber (now b) ≡ 0) × (1 ≤ k) × (k ≤ 64) × Roomy k (stateCount (now b)) (now costs) (now plans) ⌝ }
     ensures { λ r. ⌜ Ranked (now (b .entry)) k r (now (costs .entry)) (now (costs .exit)) (now (plans .entry)) (now (plans .exit)) ⌝ }
 {
     let z = book::read_sizes(b);
-    let x = index::index(b, z);
-    let nx = nexts::next_sets(b, z, &x);
+    let mut x = index::zeros();
+    index::fill_index(b, z, &mut x);
     let m = feasible::find_barred(b, z, &x);
-    let t = table::make_table(b, z, &x, &m.off);
-    let best = build::best_actions(b, z, &t.q, &m.off, k);
-    let start = first_pool(b, z, &nx, &best, t.v[0], k);
-    search(b, z, &x, &nx, &t.q, &best, start, costs, plans)
+    if sets::has64(m.dead, 0) {
+        return 0;
+    }
+    let mut nx = nexts::no_sets();
+    nexts::fill_sets(b, z, &x, &mut nx);
+    let mut q = table::zero_rows();
+    let mut v = table::zeros();
+    table::fill_table(b, z, &x, &m.off, &mut q, &mut v);
+    let mut best = no_best();
+    build::best_actions(b, z, &q, &m.off, k, &mut best);
+    let least = v[0];
+    search(b, z, &x, &nx, &q, &best, least, k, costs, plans)
 }

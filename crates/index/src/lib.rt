@@ -46,20 +46,19 @@ pub fn count(b: &[i32], z: Sizes, p: usize) -> usize
     book::size_at(b, 4 + z.h + p)
 }
 
-fn zeros() -> [usize; 192]
+pub fn zeros() -> [usize; 192]
     ensures { λ r. ⌜ length r ≡ 192 ⌝ }
 {
     [0; 192]
 }
 
-// For each state p: at p its first line, at 64 + p the first state of the next stage, at 128 + p the stages still to come.
-pub fn index(b: &[i32], z: Sizes) -> [usize; 192]
-    requires { ⌜ Checked (now b) z ⌝ }
-    ensures { λ r. ⌜ Indexed (now (b .entry)) z r ⌝ }
+// Fills x for each state p: at p its first line, at 64 + p the first state of the next stage, at 128 + p the stages still to come.
+pub fn fill_index(b: &[i32], z: Sizes, x: &mut [usize; 192])
+    requires { ⌜ Checked (now b) z × (length (now x) ≡ 192) ⌝ }
+    ensures { λ _. ⌜ Indexed (now (b .entry)) z (now (x .exit)) ⌝ }
 {
     let h = z.h;
     let s = z.s;
-    let mut x = zeros();
     let mut t = Stage { n: 0, end: 1 };
     let mut at: usize = 0;
     let mut p: usize = 0;
@@ -72,5 +71,14 @@ pub fn index(b: &[i32], z: Sizes) -> [usize; 192]
         at = action_line(b, z, p, at, n);
         p = p + 1;
     }
+}
+
+// The index by value.
+pub fn index(b: &[i32], z: Sizes) -> [usize; 192]
+    requires { ⌜ Checked (now b) z ⌝ }
+    ensures { λ r. ⌜ Indexed (now (b .entry)) z r ⌝ }
+{
+    let mut x = zeros();
+    fill_index(b, z, &mut x);
     x
 }

@@ -44,23 +44,21 @@ fn fill_state(b: &[i32], z: Sizes, x: &[usize; 192], p: usize, t: &mut [u64; 512
     }
 }
 
-fn no_sets() -> [u64; 512]
+pub fn no_sets() -> [u64; 512]
     ensures { λ r. ⌜ length r ≡ 512 ⌝ }
 {
     [0; 512]
 }
 
-// At 8 × p + c the set of the next states of action c of state p.
-pub fn next_sets(b: &[i32], z: Sizes, x: &[usize; 192]) -> [u64; 512]
-    requires { ⌜ Indexed (now b) z (now x) ⌝ }
-    ensures { λ r. ⌜ NextsOf (now (b .entry)) r ⌝ }
+// Fills t: at 8 × p + c the set of the next states of action c of state p.
+pub fn fill_sets(b: &[i32], z: Sizes, x: &[usize; 192], t: &mut [u64; 512])
+    requires { ⌜ Indexed (now b) z (now x) × (length (now t) ≡ 512) ⌝ }
+    ensures { λ _. ⌜ NextsOf (now (b .entry)) (now (t .exit)) ⌝ }
 {
     let s = z.s;
-    let mut t = no_sets();
     let mut p: usize = 0;
     while p < s {
-        fill_state(b, z, x, p, &mut t);
+        fill_state(b, z, x, p, t);
         p = p + 1;
     }
-    t
 }

@@ -11,12 +11,11 @@ ghost use Rattle.splits.specs.Reach.{spread};
 ghost use Rattle.reach.specs.Weights.{weightAt, firstWeights, Holds, Room, WeightsOf};
 
 // Weight 1 at state 0, where every path begins.
-fn first_weights() -> [usize; 64]
-    ensures { λ r. ⌜ Holds r firstWeights ⌝ }
+fn first_weights(w: &mut [usize; 64])
+    ensures { λ _. ⌜ Holds (now (w .exit)) firstWeights ⌝ }
 {
-    let mut w = [0; 64];
+    *w = [0; 64];
     w[0] = 1;
-    w
 }
 
 // Adds y times its weight to the next state of each transition of action c of state p.
@@ -43,21 +42,20 @@ fn spread_action(
     }
 }
 
-// The reach weights of the policy, at the number of each state.
-pub fn reach_weights(b: &[i32], z: Sizes, x: &[usize; 192], plan: &[u8]) -> [usize; 64]
+// Fills w with the reach weights of the policy, at the number of each state.
+pub fn reach_weights(b: &[i32], z: Sizes, x: &[usize; 192], plan: &[u8], w: &mut [usize; 64])
     requires { ⌜ Indexed (now b) z (now x) × (isPolicy (now b) (now plan) ≡ true) ⌝ }
-    ensures { λ r. ⌜ WeightsOf (now (b .entry)) (now (plan .entry)) r ⌝ }
+    ensures { λ _. ⌜ WeightsOf (now (b .entry)) (now (plan .entry)) (now (w .exit)) ⌝ }
 {
     let s = z.s;
-    let mut w = first_weights();
+    first_weights(w);
     let mut p: usize = 0;
     while p < s {
         let c = plan[p] as usize;
         if c != 255 {
             let y = w[p];
-            spread_action(b, z, x, p, c, y, &mut w);
+            spread_action(b, z, x, p, c, y, w);
         }
         p = p + 1;
     }
-    w
 }

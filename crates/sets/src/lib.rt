@@ -26,11 +26,11 @@ pub fn union8(a: u8, b: u8) -> u8
     a | b
 }
 
-// A set of actions in a wider number.
-pub fn wide8(set: u8) -> usize
-    ensures { λ r. ⌜ (r ≡ set) × (r < 256) ⌝ }
+// An action, or a set of actions, in a wider number.
+pub fn wide8(x: u8) -> usize
+    ensures { λ r. ⌜ r ≡ x ⌝ }
 {
-    set as usize
+    x as usize
 }
 
 // Is state q in the set?

@@ -4,34 +4,33 @@ use mathlib.Core.Path.{_≡_, sym, ap, _∙_, subst}
 use mathlib.Core.Logic.{⊎-elim}
 use Prim.Native.Nat.{ℕ, _+_, _-_, _<_, _≤_}
 use native.Mathlib.Omega.{arith}
+use mathlib.Core.List.{List}
+use lib.IntN.{ℤ}
 use lib.ListN.{getD}
 use Rattle.model.specs.Lists.{upFrom}
 use Rattle.model.specs.Model.{Words, scale, stateCount, togo, action}
 use Rattle.model.specs.Recursion.{bestOf, through, feasible}
-use Rattle.sets.specs.Sets.{with, free}
+use Rattle.laws.specs.Members.{In, upFrom-in}
+use Rattle.sets.specs.Sets.{with, free, free-in}
 use Rattle.accepted.specs.Facts.{accepted}
 use Rattle.feasible.specs.Barred.{Leaves}
 use Rattle.table.specs.Table.{rowOf}
-use Rattle.build.specs.Best.{bestAt, secondAt, BarredAt}
-use Rattle.build.proofs.Best.{row-best, row-first, Found, found-none, found-one, found-two}
+use Rattle.build.specs.Best.{bestAt, secondAt}
+use Rattle.build.proofs.Best.{row-best, row-first, best-byte, Found, found-none, found-one, found-two}
 use borrow.Author.Needs.{needs}
 use Rattle.build.proofs.best_actions.Statement.{statement}
 use Rattle.build.proofs.best_actions.Tie as tie
 
 abbrev Inv-loop : tie.InvT-loop
-Inv-loop b z q off k s best₀ p₀ best p = (stateCount b ≤ 64) × (p ≤ stateCount b) × Found b k p best
+Inv-loop b z q off k best₀ s p₀ best p = (stateCount b ≤ 64) × (p ≤ stateCount b) × Found b k p best
 
 abbrev μ-loop : tie.MeasureT-loop
-μ-loop b z q off k s best₀ p₀ best p = s - p
-
-zeros-requires : tie.Need-zeros-requires Inv-loop μ-loop
-zeros-requires c κs = search needs
+μ-loop b z q off k best₀ s p₀ best p = s - p
 
 loop-holds : tie.Need-loop-holds Inv-loop μ-loop
-loop-holds c =
-    let s = c .before in
+loop-holds s =
     let ws = s .args .b .now in
-    (accepted ws (s .pre .0 .ok) .sizes .s-high, omega arith, found-none ws (s .args .k) (c .zeros .result) (c .zeros .ensures))
+    (accepted ws (s .pre .0 .ok) .sizes .s-high, omega arith, found-none ws (s .args .k) (s .args .best .now) (s .pre .3))
 
 count-requires : tie.Need-count-requires Inv-loop μ-loop
 count-requires c κs = search needs
@@ -45,7 +44,7 @@ module _ (c : tie.After-best-action Inv-loop μ-loop) where
   l = n .before .before
 
   abbrev s : tie.Start Inv-loop μ-loop
-  s = l .before .before
+  s = l .before
 
   abbrev ws : Words
   ws = s .args .b .now
@@ -74,8 +73,26 @@ module _ (c : tie.After-best-action Inv-loop μ-loop) where
 few : (c : tie.After-count Inv-loop μ-loop) → (c .before .before .loop .p < 64) × (c .count .result ≤ 8)
 few c =
     let l = c .before .before in
-    let s = l .before .before in
+    let s = l .before in
     (omega arith, omega (arith, c .count .ensures, accepted (s .args .b .now) (s .pre .0 .ok) .counts-high (l .loop .p) (omega arith)))
+
+-- the two actions fit a byte
+module _ (c : tie.After-best-action Inv-loop μ-loop) where
+  abbrev xs : List ℕ
+  xs = free (off c) (upFrom 0 (n c .count .result))
+
+  below : (d : ℕ) → In d xs → d < 8
+  below d i = omega (arith, few (n c) .1, upFrom-in 0 (n c .count .result) (free-in (off c) d (upFrom 0 (n c .count .result)) i))
+
+  abbrev cost : ℕ → ℤ
+  cost = rowOf (s c .args .q .now) (l c .loop .p)
+
+  first-small : c .best-action .result < 256
+  first-small = omega (arith, c .best-action .ensures, best-byte cost xs below)
+
+  second-small : bestOf cost (free (with 0 (c .best-action .result)) xs) < 256
+  second-small =
+      best-byte cost (free (with 0 (c .best-action .result)) xs) (λ d i. below d (free-in (with 0 (c .best-action .result)) d xs i))
 
 element-copy-out-mask : tie.Need-element-copy-out-mask Inv-loop μ-loop
 element-copy-out-mask c = omega arith
@@ -83,41 +100,29 @@ element-copy-out-mask c = omega arith
 best-action-requires : tie.Need-best-action-requires Inv-loop μ-loop
 best-action-requires c κs = few (c .before)
 
-mul-best : tie.Need-mul-best Inv-loop μ-loop
-mul-best c = omega arith
+cast-best : tie.Need-cast-best Inv-loop μ-loop
+cast-best c = omega (arith, first-small c)
 
-array-write-best : tie.Need-array-write-best Inv-loop μ-loop
-array-write-best c = omega arith
-
-wide8-requires : tie.Need-wide8-requires Inv-loop μ-loop
-wide8-requires c κs = tt
+element-write-best : tie.Need-element-write-best Inv-loop μ-loop
+element-write-best c = omega arith
 
 add-best : tie.Need-add-best Inv-loop μ-loop
 add-best c = omega arith
 
-mul-best-2 : tie.Need-mul-best-2 Inv-loop μ-loop
-mul-best-2 c = omega arith
-
-array-write-best-2 : tie.Need-array-write-best-2 Inv-loop μ-loop
-array-write-best-2 c = omega arith
+element-write-best-2 : tie.Need-element-write-best-2 Inv-loop μ-loop
+element-write-best-2 c = omega arith
 
 second-best-requires : tie.Need-second-best-requires Inv-loop μ-loop
-second-best-requires c κs = let a = c .before .before in let f = few (n a) in (f .0, f .1, a .best-action .ensures)
+second-best-requires c κs = let a = c .before in let f = few (n a) in (f .0, f .1, a .best-action .ensures)
+
+cast-best-2 : tie.Need-cast-best-2 Inv-loop μ-loop
+cast-best-2 c = omega (arith, c .second-best .ensures, second-small (c .before .before))
 
 add-best-2 : tie.Need-add-best-2 Inv-loop μ-loop
 add-best-2 c = omega arith
 
-mul-best-3 : tie.Need-mul-best-3 Inv-loop μ-loop
-mul-best-3 c = omega arith
-
-array-write-best-3 : tie.Need-array-write-best-3 Inv-loop μ-loop
-array-write-best-3 c = omega arith
-
--- its set as it is written
-barred : (o : tie.After-wide8 Inv-loop μ-loop) → BarredAt (ws (o .before)) (l (o .before) .loop .p) (o .wide8 .result)
-barred o =
-    let a = o .before in
-    record { leaves = subst (Leaves (ws a) (l a .loop .p)) (sym (o .wide8 .ensures .0)) (leaves a); small = o .wide8 .ensures .1 }
+element-write-best-3 : tie.Need-element-write-best-3 Inv-loop μ-loop
+element-write-best-3 c = omega arith
 
 add-p : tie.Need-add-p Inv-loop μ-loop
 add-p c = omega arith
@@ -127,9 +132,8 @@ loop-less c = omega arith
 
 loop-again : tie.Need-loop-again Inv-loop μ-loop
 loop-again c =
-    let o = c .before in
-    let a = o .before in
-    let m = o .wide8 .result in
+    let a = c .before in
+    let m = off a in
     let p = l a .loop .p in
     let w = ws a in
     let xs = l a .loop .best in
@@ -139,18 +143,18 @@ loop-again c =
       omega (arith, state a),
       ⊎-elim
           (λ t. subst (Found w (s a .args .k) (p + 1)) (sym (t .2))
-          (found-two w (s a .args .k) p one m xs (omega (arith, state a, l a .loop .inv .0)) old (first a) (barred o) (t .1 .result) (t .0 .taken) (t .1 .ensures ∙ second a)))
+          (found-two w (s a .args .k) p one m xs (omega (arith, state a, l a .loop .inv .0)) old (first a) (leaves a) (t .1 .result) (t .0 .taken) (t .1 .ensures ∙ second a)))
           (λ t. subst (Found w (s a .args .k) (p + 1)) (sym (t .1))
-          (found-one w (s a .args .k) p one m xs (omega (arith, state a, l a .loop .inv .0)) old (first a) (barred o) (λ j. omega (arith, t .0 .left))))
+          (found-one w (s a .args .k) p one m xs (omega (arith, state a, l a .loop .inv .0)) old (first a) (leaves a) (λ j. omega (arith, t .0 .left))))
           (c .if1 .came),
     )
 
 returns : tie.Need-returns Inv-loop μ-loop
 returns c =
     let l = c .before in
-    let ws = l .before .before .args .b .now in
+    let ws = l .before .args .b .now in
     let e : l .loop .p ≡ stateCount ws = omega arith in
-    subst (λ n. Found ws (l .before .before .args .k) n (l .loop .best)) e (l .loop .inv .2)
+    subst (λ n. Found ws (l .before .args .k) n (l .loop .best)) e (l .loop .inv .2)
 
 pub best-actions-spec : {M : Type 1} → statement M
 best-actions-spec =
@@ -158,21 +162,18 @@ best-actions-spec =
     (tie.spec
     Inv-loop
     μ-loop
-    zeros-requires
     loop-holds
     count-requires
     element-copy-out-mask
     best-action-requires
-    mul-best
-    array-write-best
-    wide8-requires
+    cast-best
+    element-write-best
     add-best
-    mul-best-2
-    array-write-best-2
+    element-write-best-2
     second-best-requires
+    cast-best-2
     add-best-2
-    mul-best-3
-    array-write-best-3
+    element-write-best-3
     add-p
     loop-less
     loop-again

@@ -23,14 +23,8 @@ count-requires c κs = let s = c .before in (s .pre .0, s .pre .2)
 add-union8 : tie.Need-add-union8
 add-union8 c = omega (arith, below-64 (c .before .before))
 
-mul-union8 : tie.Need-mul-union8
-mul-union8 c = omega (arith, below-64 (c .before .before))
-
 element-copy-out-union8 : tie.Need-element-copy-out-union8
 element-copy-out-union8 c = omega (arith, below-64 (c .before .before))
-
-cast-union8 : tie.Need-cast-union8
-cast-union8 c = let s = c .before .before .before in omega (arith, s .pre .1 .barred (s .args .p) (s .pre .2) .small)
 
 union8-requires : tie.Need-union8-requires
 union8-requires c κs = search needs
@@ -53,19 +47,19 @@ returns c =
     ∙ ap (bestOf f) (free-union (s .args .mask) off (upFrom 0 (n .count .result)))
     ∙ ap (λ k. bestOf f (free (s .args .mask) (free off (upFrom 0 k)))) (n .count .ensures))
 
-add-result : tie.Need-add-result
-add-result c = omega (arith, below-64 (c .before))
+add-wide8 : tie.Need-add-wide8
+add-wide8 c = omega (arith, below-64 (c .before))
 
-mul-result : tie.Need-mul-result
-mul-result c = omega (arith, below-64 (c .before))
+element-copy-out-wide8 : tie.Need-element-copy-out-wide8
+element-copy-out-wide8 c = omega (arith, below-64 (c .before))
 
-element-copy-out-result : tie.Need-element-copy-out-result
-element-copy-out-result c = omega (arith, below-64 (c .before))
+wide8-requires : tie.Need-wide8-requires
+wide8-requires c κs = tt
 
 returns-2 : tie.Need-returns-2
 returns-2 c =
-    let s = c .before .before in
-    rw (ne-eqb (s .args .split) (s .args .p) (c .before .if1 .left))
+    let s = c .before .before .before in
+    rw (ne-eqb (s .args .split) (s .args .p) (c .before .before .if1 .left)) (c .wide8 .ensures)
 
 pub next-action-spec : {M : Type 1} → statement M
 next-action-spec =
@@ -73,13 +67,11 @@ next-action-spec =
     (tie.spec
     count-requires
     add-union8
-    mul-union8
     element-copy-out-union8
-    cast-union8
     union8-requires
     best-action-requires
     returns
-    add-result
-    mul-result
-    element-copy-out-result
+    add-wide8
+    element-copy-out-wide8
+    wide8-requires
     returns-2)

@@ -11,6 +11,7 @@ use Rattle.accepted.specs.Facts.{accepted}
 use Rattle.build.specs.Walk.{walkBy, chosen}
 use Rattle.build.proofs.Prefix.{walk-long}
 use Rattle.engine.proofs.Parts.{row-is}
+use borrow.Author.Needs.{needs}
 use Rattle.engine.proofs.row_of.Statement.{statement}
 use Rattle.engine.proofs.row_of.Tie as tie
 
@@ -28,29 +29,31 @@ long s =
     walk-long (action (ws s)) (chosen (ws s) (s .args .plan .now) (s .args .p) (s .args .c)) (stateCount (ws s)) 0 (0 ∷ [])
     ∙ sym (s .pre .0 .sizes .s-is)
 
-row-long : (row : List ℕ) → length row ≡ 64 → (s : tie.Start) → length (take (s .args .z .s) row) ≡ s .args .z .s
-row-long row h s = length-take-le (s .args .z .s) row (omega (arith, few s))
+row-long : (s : tie.Start) → length (take (s .args .z .s) (s .args .row .now)) ≡ s .args .z .s
+row-long s = length-take-le (s .args .z .s) (s .args .row .now) (omega (arith, few s, s .pre .7))
 
-zeros-requires : tie.Need-zeros-requires
-zeros-requires c κs = tt
-
-array-borrow-prefix-row : tie.Need-array-borrow-prefix-row
-array-borrow-prefix-row c = omega (arith, few (c .before .before), c .zeros .ensures)
+slice-relend-prefix-build : tie.Need-slice-relend-prefix-build
+slice-relend-prefix-build c = let s = c .before .before in omega (arith, few s, s .pre .7)
 
 slice-aggregate-build : tie.Need-slice-aggregate-build
-slice-aggregate-build c = sym (row-long (c .before .zeros .result) (c .before .zeros .ensures) (c .before .before .before))
+slice-aggregate-build c = sym (row-long (c .before .before .before))
 
 build-requires : tie.Need-build-requires
 build-requires c κs =
     let s = c .before .before .before in
     let h = s .pre in
-    (h .0 .ok, h .1, h .2, h .3, h .4, h .5, h .6, row-long (c .before .zeros .result) (c .before .zeros .ensures) s ∙ h .0 .sizes .s-is)
+    (h .0 .ok, h .1, h .2, h .3, h .4, h .5, h .6, row-long s ∙ h .0 .sizes .s-is)
+
+same-length : tie.Need-same-length
+same-length c = search needs
 
 returns : tie.Need-returns
 returns c =
-    let z = c .before .before .before in
-    let s = z .before .before in
-    row-is (s .args .z .s) (z .zeros .result) (walk s) (c .before .build .ensures) (long s) (z .zeros .ensures) (few s)
+    let b = c .before .before in
+    let s = b .before .before .before .before in
+    row-is (s .args .z .s) (s .args .row .now) (walk s) (b .build .ensures) (long s) (s .pre .7) (few s)
 
 pub row-of-spec : {M : Type 1} → statement M
-row-of-spec = tie.close (tie.spec zeros-requires array-borrow-prefix-row slice-aggregate-build build-requires returns)
+row-of-spec =
+    tie.close
+    (tie.spec slice-relend-prefix-build slice-aggregate-build build-requires same-length returns)

@@ -5,11 +5,11 @@ use borrow.Author.Needs.{needs}
 use Rattle.reach.proofs.first_weights.Statement.{statement}
 use Rattle.reach.proofs.first_weights.Tie as tie
 
-array-write-w : tie.Need-array-write-w
-array-write-w c = search needs
+element-write-w : tie.Need-element-write-w
+element-write-w c = search needs
 
 returns : tie.Need-returns
 returns c = first-held
 
 pub first-weights-spec : {M : Type 1} → statement M
-first-weights-spec = tie.close (tie.spec array-write-w returns)
+first-weights-spec = tie.close (tie.spec element-write-w returns)

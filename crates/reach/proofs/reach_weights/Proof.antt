@@ -14,23 +14,23 @@ use Rattle.reach.proofs.reach_weights.Statement.{statement}
 use Rattle.reach.proofs.reach_weights.Tie as tie
 
 abbrev Inv-loop : tie.InvT-loop
-Inv-loop b z x plan s w₀ p₀ w p = (stateCount b ≤ 64) × (p ≤ stateCount b) × (length plan ≡ stateCount b) × Passed b plan p w
+Inv-loop b z x plan w₀ s p₀ w p = (stateCount b ≤ 64) × (p ≤ stateCount b) × (length plan ≡ stateCount b) × Passed b plan p w
 
 abbrev μ-loop : tie.MeasureT-loop
-μ-loop b z x plan s w₀ p₀ w p = s - p
+μ-loop b z x plan w₀ s p₀ w p = s - p
 
 first-weights-requires : tie.Need-first-weights-requires Inv-loop μ-loop
 first-weights-requires c κs = search needs
 
 loop-holds : tie.Need-loop-holds Inv-loop μ-loop
 loop-holds c =
-    let s = c .before .before in
+    let s = c .before .before .before in
     let ws = s .args .b .now in
     let bs = s .args .plan .now in (
       accepted ws (s .pre .0 .checked .ok) .sizes .s-high,
       omega arith,
       policy-long ws (s .pre .0 .checked .ok) bs (s .pre .1),
-      begin ws bs (c .first-weights .result) (c .first-weights .ensures),
+      begin ws bs (_) (c .first-weights .ensures),
     )
 
 shared-slice-read-c : tie.Need-shared-slice-read-c Inv-loop μ-loop
@@ -42,18 +42,18 @@ cast-c c = omega (arith, c .shared-slice-known2 .given (c .before .before .loop 
 mul-y : tie.Need-mul-y Inv-loop μ-loop
 mul-y c = omega arith
 
-array-read-y : tie.Need-array-read-y Inv-loop μ-loop
-array-read-y c = omega arith
+element-copy-out-y : tie.Need-element-copy-out-y Inv-loop μ-loop
+element-copy-out-y c = omega arith
 
 spread-action-requires : tie.Need-spread-action-requires Inv-loop μ-loop
 spread-action-requires c κs =
-    let i = c .before .before .before .before .loop in
-    let s = c .before .before .before .before .before .before .before in
+    let i = c .before .before .before .before .before .loop in
+    let s = c .before .before .before .before .before .before .before .before .before in
     let ws = s .args .b .now in
     let bs = s .args .plan .now in (
       s .pre .0,
       omega arith,
-      byte-action ws (s .pre .0 .checked .ok) bs (s .pre .1) (i .p) (omega arith) (c .before .if1 .taken),
+      byte-action ws (s .pre .0 .checked .ok) bs (s .pre .1) (i .p) (omega arith) (c .before .before .if1 .taken),
       i .inv .3 .long,
       room ws (s .pre .0 .checked .ok) bs (s .pre .1) (i .p) (omega arith) (i .w) (i .inv .3),
     )
@@ -67,15 +67,15 @@ loop-less c = omega arith
 loop-again : tie.Need-loop-again Inv-loop μ-loop
 loop-again c =
     let i = c .before .before .before .loop in
-    let s = c .before .before .before .before .before .before in
+    let s = c .before .before .before .before .before .before .before in
     let ws = s .args .b .now in
     let bs = s .args .plan .now in (
       i .inv .0,
       omega arith,
       i .inv .2,
       ⊎-elim
-          (λ k. subst (Passed ws bs (i .p + 1)) (sym (k .3))
-          (pass-action ws (s .pre .0 .checked .ok) bs (s .pre .1) (i .p) (omega arith) (i .w) (i .inv .3) _ (k .2 .ensures)))
+          (λ k. subst (Passed ws bs (i .p + 1)) (sym (k .4))
+          (pass-action ws (s .pre .0 .checked .ok) bs (s .pre .1) (i .p) (omega arith) (i .w) (i .inv .3) _ (k .3 .ensures)))
           (λ k. subst (Passed ws bs (i .p + 1)) (sym (k .1))
           (pass-none ws (s .pre .0 .checked .ok) bs (s .pre .1) (i .p) (omega arith) (i .w) (i .inv .3) (k .0 .left)))
           (c .if1 .came),
@@ -84,7 +84,7 @@ loop-again c =
 returns : tie.Need-returns Inv-loop μ-loop
 returns c =
     let i = c .before .loop in
-    let s = c .before .before .before .before in
+    let s = c .before .before .before .before .before in
     finish (s .args .b .now) (s .pre .0 .checked .ok) (s .args .plan .now) (i .p) (omega arith) (i .w) (i .inv .3)
 
 pub reach-weights-spec : {M : Type 1} → statement M
@@ -98,7 +98,7 @@ reach-weights-spec =
     shared-slice-read-c
     cast-c
     mul-y
-    array-read-y
+    element-copy-out-y
     spread-action-requires
     add-p
     loop-less

@@ -6,26 +6,23 @@ use Rattle.model.specs.Model.{stateCount}
 use Rattle.nexts.specs.Nexts.{NextsTo}
 use Rattle.nexts.proofs.Rows.{none-filled, state-more, all-filled}
 use borrow.Author.Needs.{needs}
-use Rattle.nexts.proofs.next_sets.Statement.{statement}
-use Rattle.nexts.proofs.next_sets.Tie as tie
+use Rattle.nexts.proofs.fill_sets.Statement.{statement}
+use Rattle.nexts.proofs.fill_sets.Tie as tie
 
 abbrev Inv-loop : tie.InvT-loop
-Inv-loop b z x s t₀ p₀ t p = (p ≤ stateCount b) × NextsTo b p 0 t
+Inv-loop b z x t₀ s p₀ t p = (p ≤ stateCount b) × NextsTo b p 0 t
 
 abbrev μ-loop : tie.MeasureT-loop
-μ-loop b z x s t₀ p₀ t p = s - p
-
-no-sets-requires : tie.Need-no-sets-requires Inv-loop μ-loop
-no-sets-requires c κs = search needs
+μ-loop b z x t₀ s p₀ t p = s - p
 
 loop-holds : tie.Need-loop-holds Inv-loop μ-loop
-loop-holds c = (omega arith, none-filled (c .before .args .b .now) (c .no-sets .result) (c .no-sets .ensures))
+loop-holds s = (omega arith, none-filled (s .args .b .now) (s .args .t .now) (s .pre .1))
 
 fill-state-requires : tie.Need-fill-state-requires Inv-loop μ-loop
 fill-state-requires c κs =
     let l = c .before .before in
-    let s = l .before .before in
-    (s .pre, omega arith, l .loop .inv .1)
+    let s = l .before in
+    (s .pre .0, omega arith, l .loop .inv .1)
 
 add-p : tie.Need-add-p Inv-loop μ-loop
 add-p c = search needs
@@ -36,22 +33,21 @@ loop-less c = search needs
 loop-again : tie.Need-loop-again Inv-loop μ-loop
 loop-again c =
     let l = c .before .before .before in
-    let s = l .before .before in
+    let s = l .before in
     (omega arith, state-more (s .args .b .now) (l .loop .p) _ (c .fill-state .ensures))
 
 returns : tie.Need-returns Inv-loop μ-loop
 returns c =
     let l = c .before in
-    let s = l .before .before in
+    let s = l .before in
     all-filled (s .args .b .now) (l .loop .p) (l .loop .t) (omega arith) (l .loop .inv .1)
 
-pub next-sets-spec : {M : Type 1} → statement M
-next-sets-spec =
+pub fill-sets-spec : {M : Type 1} → statement M
+fill-sets-spec =
     tie.close
     (tie.spec
     Inv-loop
     μ-loop
-    no-sets-requires
     loop-holds
     fill-state-requires
     add-p
