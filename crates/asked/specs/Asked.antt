@@ -1,7 +1,7 @@
 -- What the questions 1 to 14 and 28 say of a book and a count.
 -- Assumes nothing.
 use mathlib.Core.Path.{_≡_, refl, ap, _∙_}
-use mathlib.Core.Bool.{true}
+use mathlib.Core.Bool.{true, false}
 use mathlib.Core.Logic.{_↔_}
 use mathlib.Core.List.{List, []}
 use Prim.Native.Nat.{ℕ, zero, suc, _≤_}
@@ -13,7 +13,7 @@ use Rattle.model.specs.Questions.{Question, firstNo, andThen, bookNumber}
 use Rattle.model.specs.Policy.{hasPolicy}
 use Rattle.model.specs.Record.{countQuestions, planQuestions, askedNumber}
 use Rattle.model.specs.Calls.{roomQuestions, rankNumber, writeQuestions, writeNumber}
-use Rattle.accepted.specs.Demands.{NoPolicy, passes-28, refused-28}
+use Rattle.accepted.specs.Demands.{NoPolicy, no-policy, passes-28, refused-28}
 use Rattle.questions.specs.Ranges.{and-true}
 use Rattle.questions.specs.FirstNo.{Without, passed, passes, none, never, then-yes, then-zero}
 
@@ -33,12 +33,42 @@ module _ (ws : Words) (k : ℕ) where
       let y = and-true (leb 1 k) (leb k 64) (passed k countQuestions (omega arith) (u .0) .0) in
       record { ok = t .0; low = leb-true 1 k (y .0); high = leb-true k 64 (y .1); has = passed ws planQuestions (omega arith) (u .1) .0 }
 
+  -- the number by the questions 1 to 14 alone
+  unfoldable pub countedNumber : ℕ
+  countedNumber = andThen (bookNumber ws) (firstNo countQuestions k)
+
+  -- these are passed
+  pub record Counted : Type 0 where
+    pub ok : bookNumber ws ≡ 0
+    pub low : 1 ≤ k
+    pub high : k ≤ 64
+
+  pub counted-says : countedNumber ≡ 0 → Counted
+  unfolding countedNumber
+  counted-says e =
+      let t = then-zero (bookNumber ws) _ e in
+      let y = and-true (leb 1 k) (leb k 64) (passed k countQuestions (omega arith) (t .1) .0) in
+      record { ok = t .0; low = leb-true 1 k (y .0); high = leb-true k 64 (y .1) }
+
+  -- where one of them gives a number, 28 is not asked
+  pub counted-stops : (countedNumber ≡ 0 → ⊥) → countedNumber ≡ askedNumber ws k
+  unfolding countedNumber askedNumber
+  counted-stops = go (bookNumber ws) (firstNo countQuestions k) (firstNo planQuestions ws)
+    where
+      go : (a b c : ℕ) → (andThen a b ≡ 0 → ⊥) → andThen a b ≡ andThen a (andThen b c)
+      go zero zero c h = absurd (h refl)
+      go zero (suc b) c h = refl
+      go (suc a) b c h = refl
+
   -- the questions before 28 are passed: it alone decides
   pub asked-last : bookNumber ws ≡ 0 → 1 ≤ k → k ≤ 64 → askedNumber ws k ≡ firstNo planQuestions ws
   unfolding askedNumber
   asked-last ok low high =
       then-yes (bookNumber ws) _ ok
       ∙ then-yes (firstNo countQuestions k) _ (passes k _ [] (rw (le-leb 1 k low, le-leb k 64 high)) ∙ none k)
+
+  pub asked-none : Counted → hasPolicy ws ≡ false → askedNumber ws k ≡ 28
+  asked-none c e = asked-last (c .ok) (c .low) (c .high) ∙ refused-28 ws (c .ok) .1 (no-policy ws (c .ok) .0 e)
 
   pub asked-passed : Asked → askedNumber ws k ≡ 0
   asked-passed a = asked-last (a .ok) (a .low) (a .high) ∙ passes-28 ws (a .ok) (a .has)
