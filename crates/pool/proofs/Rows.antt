@@ -1,18 +1,13 @@
 -- The bytes of the slots: one row is written, and the others stay.
 -- Assumes nothing.
-use mathlib.Core.Path.{_≡_, refl, sym, ap, _∙_}
-use mathlib.Core.Bool.{Bool, true, false, _&&_, _||_}
+use mathlib.Core.Path.{_≡_, sym, ap, _∙_}
 use mathlib.Core.Logic.{_⊎_, inl, inr}
 use mathlib.Core.List.{List, _++_, append-assoc}
 use Prim.Native.Nat.{ℕ, _+_, _*_, _-_, _≤_, _<_}
-use native.Mathlib.Numerals.{add-one}
 use native.Mathlib.Decide.{decLt}
 use native.Mathlib.Omega.{arith}
-use borrow.Author.Tests.{le-ltb, eq-eqb, ne-eqb}
-use lib.Dec.{ltb, eqb}
-use lib.ListN.{length, getD, take, drop, length-drop, List·getD-append, drop-of-length-le}
-use lib.Seq.{drop-cons, drop-at, take-at, length-take-le, length-paste, length-paste-head, getD-take, getD-drop, ext-getD, paste}
-use Rattle.model.specs.Order.{lower}
+use lib.ListN.{length, getD, take, drop, length-drop, List·getD-append}
+use lib.Seq.{drop-at, take-at, length-take-le, length-paste, length-paste-head, getD-take, getD-drop, ext-getD, paste}
 use Rattle.pool.specs.Entries.{row}
 use Rattle.pool.proofs.Lists.{front-at, after-front}
 
@@ -65,26 +60,3 @@ module _ (plans : List ℕ) (j s : ℕ) (bs : List ℕ) (long : length plans ≡
           go : Dec (j < k) → j < k
           go (yes g) = g
           go (no g) = absurd (d (omega arith))
-
--- ---- two plans compared from the front
-
-module _ (bs cs : List ℕ) (i : ℕ) (h : i < length bs) (k : i < length cs) where
-  abbrev rest : Bool
-  rest = lower (drop (i + 1) bs) (drop (i + 1) cs)
-
-  by-byte : lower (drop i bs) (drop i cs) ≡ (ltb (getD bs i 0) (getD cs i 0) || (eqb (getD bs i 0) (getD cs i 0) && rest))
-  by-byte = rw (drop-cons bs i 0 h, drop-cons cs i 0 k, add-one)
-
-  pub lower-equal : getD bs i 0 ≡ getD cs i 0 → lower (drop i bs) (drop i cs) ≡ rest
-  lower-equal e =
-      by-byte ∙ rw (le-ltb (getD bs i 0) (getD cs i 0) (omega arith), eq-eqb (getD bs i 0) (getD cs i 0) e)
-
-  pub lower-differ : (getD bs i 0 ≡ getD cs i 0 → ⊥) → lower (drop i bs) (drop i cs) ≡ ltb (getD bs i 0) (getD cs i 0)
-  lower-differ d = by-byte ∙ rw (ne-eqb (getD bs i 0) (getD cs i 0) d) (go (ltb (getD bs i 0) (getD cs i 0)))
-    where
-      go : (t : Bool) → (t || false) ≡ t
-      go true = refl
-      go false = refl
-
-pub lower-end : (bs cs : List ℕ) (i : ℕ) → length bs ≤ i → lower (drop i bs) cs ≡ false
-lower-end bs cs i h = rw (drop-of-length-le bs {i = i} h)

@@ -65,16 +65,11 @@ fn lower_bytes(plans: &[u8; 4096], j: usize, s: usize, bytes: &[u8; 64]) -> bool
     ensures { λ r. ⌜ r ≡ lower (take s (now (bytes .entry))) (row s (now (plans .entry)) j) ⌝ }
 {
     let base = j * 64;
-    let mut i: usize = 0;
-    while i < s {
-        let a = bytes[i];
-        let b = plans[base + i];
-        if a != b {
-            return a < b;
-        }
-        i = i + 1;
+    let i = compare::first_difference(plans, base, bytes, s);
+    if i == s {
+        return false;
     }
-    false
+    bytes[i] < plans[base + i]
 }
 
 // Does the candidate come before that of slot j? The bytes decide only where the costs are equal.
