@@ -17,12 +17,17 @@ fn accept_book(r: &[u8], b: &[i32]) -> Accepted
     ensures { λ a. ⌜ (a .no ≡ acceptNumber (now (r .entry))) × (a .s ≡ acceptStates (now (r .entry))) × (a .k ≡ acceptCount (now (r .entry))) ⌝ }
 {
     let k = record::carried_k(r);
-    let no = asked::asked_number(b, k);
+    let no = asked::counted_number(b, k);
     if no != 0 {
         return Accepted { no: no, s: 0, k: 0 };
     }
     let l = listing::list(b, k);
-    let last = record::tail_number(r, l);
+    let n = l.n;
+    if n == 0 {
+        return Accepted { no: 28, s: 0, k: 0 };
+    }
+    let s = l.s;
+    let last = record::tail_number(r, n, s, &l.costs, &l.plans);
     if last != 0 {
         return Accepted {
             no: last,
@@ -32,8 +37,8 @@ fn accept_book(r: &[u8], b: &[i32]) -> Accepted
     }
     Accepted {
         no: 0,
-        s: l.s,
-        k: l.n,
+        s: s,
+        k: n,
     }
 }
 

@@ -1,18 +1,21 @@
 -- What the questions 1 to 14 and 28 say of a book and a count.
 -- Assumes nothing.
-use mathlib.Core.Path.{_≡_, refl, ap, _∙_}
-use mathlib.Core.Bool.{true, false}
+use mathlib.Core.Path.{_≡_, refl, sym, ap, _∙_}
+use mathlib.Core.Bool.{Bool, true, false}
 use mathlib.Core.Logic.{_↔_}
 use mathlib.Core.List.{List, []}
 use Prim.Native.Nat.{ℕ, zero, suc, _≤_}
 use native.Mathlib.Omega.{arith}
 use borrow.Author.Tests.{leb-true, le-leb}
 use lib.Dec.{leb}
+use lib.ListN.{length}
 use Rattle.model.specs.Model.{Words}
 use Rattle.model.specs.Questions.{Question, firstNo, andThen, bookNumber}
 use Rattle.model.specs.Policy.{hasPolicy}
+use Rattle.model.specs.Order.{ranking}
 use Rattle.model.specs.Record.{countQuestions, planQuestions, askedNumber}
 use Rattle.model.specs.Calls.{roomQuestions, rankNumber, writeQuestions, writeNumber}
+use Rattle.accepted.specs.Empty.{listed-none}
 use Rattle.accepted.specs.Demands.{NoPolicy, no-policy, passes-28, refused-28}
 use Rattle.questions.specs.Ranges.{and-true}
 use Rattle.questions.specs.FirstNo.{Without, passed, passes, none, never, then-yes, then-zero}
@@ -69,6 +72,18 @@ module _ (ws : Words) (k : ℕ) where
 
   pub asked-none : Counted → hasPolicy ws ≡ false → askedNumber ws k ≡ 28
   asked-none c e = asked-last (c .ok) (c .low) (c .high) ∙ refused-28 ws (c .ok) .1 (no-policy ws (c .ok) .0 e)
+
+  -- 28 by the length of the list
+  module _ (c : Counted) {n : ℕ} (e : n ≡ length (ranking ws k)) where
+    pub list-none : n ≡ 0 → askedNumber ws k ≡ 28
+    list-none z = asked-none c (listed-none ws (c .ok) k (c .low) .0 (sym e ∙ z))
+
+    pub list-some : (n ≡ 0 → ⊥) → Asked
+    list-some h = record { ok = c .ok; low = c .low; high = c .high; has = go (hasPolicy ws) refl }
+      where
+        go : (b : Bool) → hasPolicy ws ≡ b → hasPolicy ws ≡ true
+        go true has = has
+        go false has = absurd (h (e ∙ listed-none ws (c .ok) k (c .low) .1 has))
 
   pub asked-passed : Asked → askedNumber ws k ≡ 0
   asked-passed a = asked-last (a .ok) (a .low) (a .high) ∙ passes-28 ws (a .ok) (a .has)

@@ -2,7 +2,7 @@
 use record::Listing;
 ghost use mathlib.Core.Path.{_≡_};
 ghost use lib.ListN.{length};
-ghost use Rattle.asked.specs.Asked.{Asked};
+ghost use Rattle.asked.specs.Asked.{Counted};
 ghost use Rattle.record.specs.Listed.{Listed};
 
 fn no_costs() -> [i64; 64]
@@ -17,9 +17,9 @@ fn no_plans() -> [u8; 4096]
     [0; 4096]
 }
 
-// The first k policies of a book that passes the questions 1 to 14 and 28, with their costs.
+// The first k policies of a book that passes the questions 1 to 14, with their costs: none exactly if it has none, which is question 28.
 pub fn list(b: &[i32], k: usize) -> Listing
-    requires { ⌜ Asked (now b) k ⌝ }
+    requires { ⌜ Counted (now b) k ⌝ }
     ensures { λ l. ⌜ Listed (now (b .entry)) k l ⌝ }
 {
     let z = book::read_sizes(b);

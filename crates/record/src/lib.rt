@@ -49,15 +49,23 @@ fn put_head(b: &[i32], k: usize, n: usize, out: &mut [u8])
     bytes_io::write_words(out, 12, b);
 }
 
-// The record of book b and count k, whose list is l, to the front of `out`.
-pub fn put_record(b: &[i32], k: usize, l: Listing, out: &mut [u8])
-    requires { ⌜ Asked (now b) k × Listed (now b) k l × (length (recordBytes (now b) k) ≤ length (now out)) ⌝ }
+// The record of book b and count k, whose list is the n policies of s bytes and their costs, to the front of `out`.
+pub fn put_record<'a>(
+    b: &[i32],
+    k: usize,
+    n: usize,
+    s: usize,
+    costs: &'a [i64; 64],
+    plans: &'a [u8; 4096],
+    out: &mut [u8],
+)
+    requires { ⌜ Asked (now b) k × Listed (now b) k (record { n = n; s = s; costs = now costs; plans = now plans }) × (length (recordBytes (now b) k) ≤ length (now out)) ⌝ }
     ensures { λ _. ⌜ now (out .exit) ≡ over (recordBytes (now (b .entry)) k) (now (out .entry)) ⌝ }
 {
-    put_head(b, k, l.n, out);
+    put_head(b, k, n, out);
     let at = 12 + 4 * b.len();
-    bytes_io::write_costs(out, at, &l.costs, l.n);
-    bytes_io::write_bytes(out, at + 8 * l.n, &l.plans, l.n * l.s);
+    bytes_io::write_costs(out, at, costs, n);
+    bytes_io::write_bytes(out, at + 8 * n, plans, n * s);
 }
 
 // ---- what a record carries
@@ -141,21 +149,27 @@ fn same_costs(r: &[u8], at: usize, costs: &[i64], n: usize) -> bool
 }
 
 // 20, then 21: are costs, plans and k those of the list of the carried book and count?
-pub fn tail_number(r: &[u8], l: Listing) -> u32
-    requires { ⌜ (firstNo headQuestions (now r) ≡ 0) × Asked (carriedBook (now r)) (carriedK (now r)) × Listed (carriedBook (now r)) (carriedK (now r)) l ⌝ }
+pub fn tail_number<'a>(
+    r: &[u8],
+    n: usize,
+    s: usize,
+    costs: &'a [i64; 64],
+    plans: &'a [u8; 4096],
+) -> u32
+    requires { ⌜ (firstNo headQuestions (now r) ≡ 0) × Asked (carriedBook (now r)) (carriedK (now r)) × Listed (carriedBook (now r)) (carriedK (now r)) (record { n = n; s = s; costs = now costs; plans = now plans }) ⌝ }
     ensures { λ x. ⌜ x ≡ firstNo tailQuestions (now (r .entry)) ⌝ }
 {
-    if !sizes_fit(r, l.s) {
+    if !sizes_fit(r, s) {
         return 20;
     }
-    if carried_count(r) != l.n {
+    if carried_count(r) != n {
         return 21;
     }
     let at = 12 + 4 * carried_length(r);
-    if !same_costs(r, at, &l.costs, l.n) {
+    if !same_costs(r, at, costs, n) {
         return 21;
     }
-    if !bytes_io::same_bytes(r, at + 8 * l.n, &l.plans, l.n * l.s) {
+    if !bytes_io::same_bytes(r, at + 8 * n, plans, n * s) {
         return 21;
     }
     0

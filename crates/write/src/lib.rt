@@ -13,16 +13,21 @@ pub struct Written {
 pub fn write(b: &[i32], k: usize, out: &mut [u8]) -> Written
     ensures { λ r. ⌜ (r .no ≡ writeNumber (now (b .entry)) k (length (now (out .entry)))) × (r .length ≡ writeLength (now (b .entry)) k (length (now (out .entry)))) × (now (out .exit) ≡ writeRecord (now (b .entry)) k (now (out .entry))) ⌝ }
 {
-    let no = asked::asked_number(b, k);
+    let no = asked::counted_number(b, k);
     if no != 0 {
         return Written { no: no, length: 0 };
     }
     let l = listing::list(b, k);
-    let long = 12 + 4 * b.len() + 8 * l.n + l.n * l.s;
+    let n = l.n;
+    if n == 0 {
+        return Written { no: 28, length: 0 };
+    }
+    let s = l.s;
+    let long = 12 + 4 * b.len() + 8 * n + n * s;
     if out.len() < long {
         return Written { no: 18, length: 0 };
     }
-    record::put_record(b, k, l, out);
+    record::put_record(b, k, n, s, &l.costs, &l.plans, out);
     Written {
         no: 0,
         length: long,

@@ -13,7 +13,7 @@ use Rattle.model.specs.Model.{Words, stateCount}
 use Rattle.model.specs.Policy.{Policy}
 use Rattle.model.specs.Order.{ranking, rankingCosts}
 use Rattle.accepted.specs.Facts.{accepted}
-use Rattle.asked.specs.Asked.{Asked}
+use Rattle.asked.specs.Asked.{Counted}
 use Rattle.index.proofs.Lines.{headed}
 use Rattle.record.specs.declared.Listing.{Listing}
 use Rattle.record.specs.Lengths.{costs-length, flat-length, count-most}
@@ -23,7 +23,7 @@ use borrow.Author.Needs.{needs}
 use Rattle.listing.proofs.list.Statement.{statement}
 use Rattle.listing.proofs.list.Tie as tie
 
-module _ (ws : Words) (k : ℕ) (a : Asked ws k) where
+module _ (ws : Words) (k : ℕ) (a : Counted ws k) where
   -- at most 64 policies of 64 bytes
   most : (n : ℕ) → n ≤ 64 → n * stateCount ws ≤ 4096
   most n h = mul-le-mul {n₁ = n} {m₁ = stateCount ws} {n₂ = 64} {m₂ = 64} h (accepted ws (a .ok) .sizes .s-high)
@@ -71,11 +71,12 @@ list-requires c κs =
     let s = d .before .before .before in
     let a = s .pre in (
       a .ok,
-      a .has,
       a .low,
       a .high,
-      omega (arith, a .high, d .before .no-costs .ensures),
-      omega (arith, most (s .args .b .now) (s .args .k) a (s .args .k) (a .high), d .no-plans .ensures),
+      record {
+        costs-room = omega (arith, a .high, d .before .no-costs .ensures);
+        plans-room = omega (arith, most (s .args .b .now) (s .args .k) a (s .args .k) (a .high), d .no-plans .ensures);
+      },
     )
 
 returns : tie.Need-returns

@@ -31,7 +31,7 @@ read-sizes-requires : tie.Need-read-sizes-requires
 read-sizes-requires c κs = headed _ (c .before .pre .0 .ok)
 
 list-requires : tie.Need-list-requires
-list-requires c κs = c .before .before .pre .0
+list-requires c κs = let a = c .before .before .pre .0 in record { ok = a .ok; low = a .low; high = a .high }
 
 power-requires : tie.Need-power-requires
 power-requires c κs = search needs

@@ -5,6 +5,7 @@ use Prim.Native.Nat.{_+_, _*_}
 use native.Mathlib.Omega.{arith}
 use lib.ListN.{length}
 use Rattle.model.specs.Record.{recordBytes}
+use Rattle.record.specs.declared.Listing.{Listing}
 use Rattle.record.specs.Lengths.{book-length}
 use Rattle.record.specs.Listed.{listLength}
 use Rattle.record.proofs.Parts.{record-long, record-written}
@@ -12,8 +13,11 @@ use borrow.Author.Needs.{needs}
 use Rattle.record.proofs.put_record.Statement.{statement}
 use Rattle.record.proofs.put_record.Tie as tie
 
-long : (s : tie.Start) → length (recordBytes (s .args .b .now) (s .args .k)) ≡ 12 + 4 * length (s .args .b .now) + listLength (s .args .t3)
-long s = record-long (s .args .b .now) (s .args .k) (s .args .t3) (s .pre .1) (s .pre .0 .ok)
+abbrev l : tie.Start → Listing
+l s = record { n = s .args .n; s = s .args .s; costs = s .args .costs .now; plans = s .args .plans .now }
+
+long : (s : tie.Start) → length (recordBytes (s .args .b .now) (s .args .k)) ≡ 12 + 4 * length (s .args .b .now) + listLength (l s)
+long s = record-long (s .args .b .now) (s .args .k) (l s) (s .pre .1) (s .pre .0 .ok)
 
 put-head-requires : tie.Need-put-head-requires
 put-head-requires c κs =
@@ -28,7 +32,7 @@ add-at c = search needs
 
 write-costs-requires : tie.Need-write-costs-requires
 write-costs-requires c κs =
-    let s = c .before .before .before .before .before .before .before .before .before in
+    let s = c .before .before .before .before .before .before .before in
     omega (arith, long s, s .pre .1 .held .costs-long)
 
 mul-write-bytes : tie.Need-mul-write-bytes
@@ -42,8 +46,8 @@ mul-write-bytes-2 c = search needs
 
 write-bytes-requires : tie.Need-write-bytes-requires
 write-bytes-requires c κs =
-    let w = c .before .before .before .before .before .before in
-    let s = w .before .before .before .before .before .before .before .before .before .before in
+    let w = c .before .before .before .before in
+    let s = w .before .before .before .before .before .before .before .before in
     omega (arith, long s, s .pre .1 .held .plans-long)
 
 same-length : tie.Need-same-length
@@ -52,10 +56,10 @@ same-length c = search needs
 returns : tie.Need-returns
 returns c =
     let p = c .before .before in
-    let w = p .before .before .before .before .before .before .before in
-    let h = w .before .before .before .before .before .before .before in
+    let w = p .before .before .before .before .before in
+    let h = w .before .before .before .before .before in
     let s = h .before .before .before in
-    record-written (s .args .b .now) (s .args .k) (s .args .t3) (s .pre .1) (s .args .out .now) _ _ _ (s .pre .0 .ok) (s .pre .2) (h .put-head .ensures)
+    record-written (s .args .b .now) (s .args .k) (l s) (s .pre .1) (s .args .out .now) _ _ _ (s .pre .0 .ok) (s .pre .2) (h .put-head .ensures)
     (w .write-costs .ensures) (p .write-bytes .ensures)
 
 pub put-record-spec : {M : Type 1} → statement M

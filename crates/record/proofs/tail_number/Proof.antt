@@ -13,11 +13,15 @@ use Rattle.model.specs.Record.{listBytes, carriedK, carriedCount, carriedBook, 
 use Rattle.questions.specs.FirstNo.{fails, passes, none}
 use Rattle.accepted.specs.Facts.{accepted}
 use Rattle.book.proofs.Words.{no, yes′}
+use Rattle.record.specs.declared.Listing.{Listing}
 use Rattle.record.specs.Listed.{listLength, costBytes, planBytes}
 use Rattle.record.specs.Passed.{RecordHead, head-says, sizesFit, sizes-say, exact-length}
 use Rattle.record.proofs.Parts.{list-asked}
 use Rattle.record.proofs.tail_number.Statement.{statement}
 use Rattle.record.proofs.tail_number.Tie as tie
+
+abbrev l : tie.Start → Listing
+l s = record { n = s .args .n; s = s .args .s; costs = s .args .costs .now; plans = s .args .plans .now }
 
 headed : (s : tie.Start) → RecordHead (s .args .r .now)
 headed s = head-says (s .args .r .now) (s .pre .0)
@@ -35,27 +39,27 @@ count c =
 
 -- and the record ends where the list does
 long : (c : tie.After-carried-length) →
-    let a = c .before .before .before .before .before .before .args in
-    length (a .r .now) ≡ 12 + 4 * c .carried-length .result + listLength (a .t2)
+    let s = c .before .before .before .before .before .before in
+    length (s .args .r .now) ≡ 12 + 4 * c .carried-length .result + listLength (l s)
 long c =
     let d = c .before .before in
     let s = d .before .before .before .before in
     let r = s .args .r .now in
-    let e = exact-length r _ (s .args .t2 .n) (s .args .t2 .s) (c .carried-length .ensures .0) (sym (c .before .if2 .left) ∙ d .carried-count .ensures .0)
+    let e = exact-length r _ (s .args .n) (s .args .s) (c .carried-length .ensures .0) (sym (c .before .if2 .left) ∙ d .carried-count .ensures .0)
     (s .pre .2 .states) (sizes-say r (fit (d .before))) in
     omega (arith, e)
 
 -- what question 21 asks of the list, the costs first
 asked : (c : tie.After-carried-length) →
-    let a = c .before .before .before .before .before .before .args in
-    let r = a .r .now in
+    let s = c .before .before .before .before .before .before in
+    let r = s .args .r .now in
     let at = 12 + 4 * c .carried-length .result in
     same (drop (listStart r) r) (listBytes (carriedBook r) (carriedK r))
-    ≡ (same (take (8 * a .t2 .n) (drop at r)) (costBytes (a .t2 .n) (a .t2 .costs))
-    && same (take (a .t2 .n * a .t2 .s) (drop (at + 8 * a .t2 .n) r)) (planBytes (a .t2)))
+    ≡ (same (take (8 * l s .n) (drop at r)) (costBytes (l s .n) (l s .costs))
+    && same (take (l s .n * l s .s) (drop (at + 8 * l s .n) r)) (planBytes (l s)))
 asked c =
     let s = c .before .before .before .before .before .before in
-    list-asked _ _ (s .args .t2) (s .pre .2) (s .args .r .now) _ (c .carried-length .ensures .0) (long c)
+    list-asked _ _ (l s) (s .pre .2) (s .args .r .now) _ (c .carried-length .ensures .0) (long c)
 
 sizes-fit-requires : tie.Need-sizes-fit-requires
 sizes-fit-requires c κs =
@@ -88,12 +92,12 @@ add-at c = search needs
 
 same-costs-requires : tie.Need-same-costs-requires
 same-costs-requires c κs =
-    let d = c .before .before .before in
+    let d = c .before in
     omega (arith, long d, d .before .before .before .before .before .before .pre .2 .held)
 
 returns-3 : tie.Need-returns-3
 returns-3 c =
-    let d = c .before .before .before .before .before in
+    let d = c .before .before .before in
     sym
     (passes _ _ _ (fit (d .before .before .before))
     ∙ fails _ _ _ (rw (eq-eqb _ _ (count (d .before)), asked d, no (c .before .same-costs .ensures) (c .if3 .taken))))
@@ -109,13 +113,13 @@ mul-same-bytes-2 c = search needs
 
 same-bytes-requires : tie.Need-same-bytes-requires
 same-bytes-requires c κs =
-    let d = c .before .before .before .before .before .before .before .before in
+    let d = c .before .before .before .before in
     omega (arith, long d, d .before .before .before .before .before .before .pre .2 .held)
 
 returns-4 : tie.Need-returns-4
 returns-4 c =
-    let q = c .before .before .before .before .before in
-    let d = q .before .before .before .before .before in
+    let q = c .before .before .before in
+    let d = q .before .before .before in
     sym
     (passes _ _ _ (fit (d .before .before .before))
     ∙ fails _ _ _
@@ -123,8 +127,8 @@ returns-4 c =
 
 returns-5 : tie.Need-returns-5
 returns-5 c =
-    let q = c .before .before .before .before .before in
-    let d = q .before .before .before .before .before in
+    let q = c .before .before .before in
+    let d = q .before .before .before in
     sym
     (passes _ _ _ (fit (d .before .before .before))
     ∙ passes _ _ _
