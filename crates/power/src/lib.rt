@@ -27,14 +27,15 @@ pub fn raised(d: usize, e: usize) -> u64
     requires { ⌜ (d ≤ 100) × (e ≤ 8) ⌝ }
     ensures { λ r. ⌜ r ≡ d ^ e ⌝ }
 {
-    if e == 0 {
-        return 1;
-    }
     let one = d as u64;
+    let low = factor(one, e, 1);
+    if e < 2 {
+        return low;
+    }
     let two = one * one;
     let four = two * two;
     if e == 8 {
         return four * four;
     }
-    factor(one, e, 1) * factor(two, e, 2) * factor(four, e, 4)
+    low * factor(two, e, 2) * factor(four, e, 4)
 }
