@@ -1,4 +1,5 @@
--- `commit` meets its contract, by the walk of `cancel` with another method: where the number is 0, the rank that the rider holds is read and written twice.
+-- `commit` meets its contract, by the walk of `cancel` with another method: where the number is 0, the rank that the rider holds is read and written as
+-- committed, and the hold is dropped.
 -- Assumes nothing.
 use mathlib.Core.Path.{_≡_, refl, sym, ap, _∙_}
 use Prim.Native.Nat.{ℕ, _+_, _<_, _^_}
