@@ -35,11 +35,7 @@ fn accept_book(r: &[u8], b: &[i32]) -> Accepted
             k: 0,
         };
     }
-    Accepted {
-        no: 0,
-        s: s,
-        k: n,
-    }
+    Accepted { no: 0, s: s, k: n }
 }
 
 // Any bytes: are they the record that is written for the book and the count they carry?

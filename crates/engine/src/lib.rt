@@ -97,14 +97,7 @@ fn no_weights() -> [usize; 64]
 }
 
 // The pool of at most k with the first candidate: all policies, of which the first takes the first best actions and costs `cost`.
-fn first_pool(
-    b: &[i32],
-    z: Sizes,
-    nx: &[u64; 512],
-    best: &[u8; 192],
-    cost: i64,
-    k: usize,
-) -> Pool
+fn first_pool(b: &[i32], z: Sizes, nx: &[u64; 512], best: &[u8; 192], cost: i64, k: usize) -> Pool
     requires { ⌜ Checked (now b) z × NextsOf (now b) (now nx) × BestOf (now b) (now best) × Alive (now b) 0 × (cost ≡ firstCandidate (now b) .cost) × (1 ≤ k) × (k ≤ 64) ⌝ }
     ensures { λ r. ⌜ Formed r × (r .most ≡ k) × (entries (stateCount (now (b .entry))) r ≡ firstCandidate (now (b .entry)) ∷ []) ⌝ }
 {
@@ -173,7 +166,17 @@ fn search(
             let n = pool.count;
             if may_enter(&pool.costs, &pool.order, n, k, d) {
                 let mut row = zeros();
-                row_of(b, z, nx, best, &plans[at..to], state, d.action, from, &mut row);
+                row_of(
+                    b,
+                    z,
+                    nx,
+                    best,
+                    &plans[at..to],
+                    state,
+                    d.action,
+                    from,
+                    &mut row,
+                );
                 let i = pool::place(&pool.costs, &pool.plans, &pool.order, n, s, more, &row);
                 if i < k {
                     let last = pool::spare_place(n, k);

@@ -697,6 +697,7 @@ returns-2 c =
     let a = c .before in
     let s = g a in
     turns-end (ws s) (known s .ok) (k s) (s .args .costs .now) (s .args .plans .now) (n s) (all s) (turn a) (c .loop-test .left)
+
 pub search-spec : {M : Type 1} → statement M
 search-spec =
     tie.close
