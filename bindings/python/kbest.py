@@ -14,8 +14,8 @@ import pathlib
 import threading
 
 # of this module, as text and as the number that version() gives of the library
-VERSION_TEXT = '1.6.0'
-VERSION = 10600
+VERSION_TEXT = '1.6.1'
+VERSION = 10601
 
 BOOK_MOST = 4172
 POSTS_MOST = 64

@@ -11,7 +11,7 @@ ghost use Rattle.kbest_c.specs.Version.{version};
 use reservation::Desk;
 
 // The version in the file VERSION: its first number × 10,000 + its second × 100 + its third.
-const VERSION: u32 = 10600;
+const VERSION: u32 = 10601;
 
 // The version of the library that is linked.
 #[no_mangle]
