@@ -4,7 +4,7 @@ use book::Sizes;
 use book::Stage;
 ghost use mathlib.Core.Path.{_≡_};
 ghost use Prim.Native.Nat.{_+_, _<_, _≤_};
-ghost use Rattle.model.specs.Model.{firstState, stateCount, stage, actionCount, action, closed};
+ghost use Rattle.model.specs.Model.{firstState, stateCount, stage, actionCount, actionLine, action, closed};
 ghost use Rattle.model.specs.Questions.{bookNumber};
 ghost use Rattle.book.specs.Read.{StageFor};
 ghost use Rattle.index.specs.Index.{Checked, Indexed, ActionAt};
@@ -115,12 +115,24 @@ pub fn of_line(b: &[i32], z: Sizes, x: &[usize; 192], p: usize, c: usize, j: usi
     at_word(b, z, p, c, z.columns + j, x[64 + p])
 }
 
+// The first line of action c of state p. At the last stage every action is one line, so none is walked over.
+fn line_of(b: &[i32], z: Sizes, x: &[usize; 192], p: usize, c: usize) -> usize
+    requires { ⌜ Indexed (now b) z (now x) × (p < stateCount (now b)) × (c < actionCount (now b) p) ⌝ }
+    ensures { λ r. ⌜ r ≡ actionLine (now (b .entry)) p c ⌝ }
+{
+    let line = x[p];
+    if x[128 + p] == 0 {
+        return line + c;
+    }
+    index::action_line(b, z, p, line, c)
+}
+
 // The lines of action c of state p.
 pub fn of_action(b: &[i32], z: Sizes, x: &[usize; 192], p: usize, c: usize) -> Lines
     requires { ⌜ Indexed (now b) z (now x) × (p < stateCount (now b)) × (c < actionCount (now b) p) ⌝ }
     ensures { λ r. ⌜ LinesOf (now (b .entry)) p c r ⌝ }
 {
-    let j = index::action_line(b, z, p, x[p], c);
+    let j = line_of(b, z, x, p, c);
     of_line(b, z, x, p, c, j)
 }
 
