@@ -21,13 +21,14 @@ fn accept_book(r: &[u8], b: &[i32]) -> Accepted
     if no != 0 {
         return Accepted { no: no, s: 0, k: 0 };
     }
-    let l = listing::list(b, k);
-    let n = l.n;
+    let z = book::read_sizes(b);
+    let mut costs = listing::no_costs();
+    let mut plans = listing::no_plans();
+    let n = engine::list(b, k, &mut costs, &mut plans);
     if n == 0 {
         return Accepted { no: 28, s: 0, k: 0 };
     }
-    let s = l.s;
-    let last = record::tail_number(r, n, s, &l.costs, &l.plans);
+    let last = record::tail_number(r, n, z.s, &costs, &plans);
     if last != 0 {
         return Accepted {
             no: last,
@@ -35,7 +36,11 @@ fn accept_book(r: &[u8], b: &[i32]) -> Accepted
             k: 0,
         };
     }
-    Accepted { no: 0, s: s, k: n }
+    Accepted {
+        no: 0,
+        s: z.s,
+        k: n,
+    }
 }
 
 // Any bytes: are they the record that is written for the book and the count they carry?

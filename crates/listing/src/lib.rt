@@ -5,13 +5,13 @@ ghost use lib.ListN.{length};
 ghost use Rattle.asked.specs.Asked.{Counted};
 ghost use Rattle.record.specs.Listed.{Listed};
 
-fn no_costs() -> [i64; 64]
+pub fn no_costs() -> [i64; 64]
     ensures { λ r. ⌜ length r ≡ 64 ⌝ }
 {
     [0; 64]
 }
 
-fn no_plans() -> [u8; 4096]
+pub fn no_plans() -> [u8; 4096]
     ensures { λ r. ⌜ length r ≡ 4096 ⌝ }
 {
     [0; 4096]

@@ -17,17 +17,18 @@ pub fn write(b: &[i32], k: usize, out: &mut [u8]) -> Written
     if no != 0 {
         return Written { no: no, length: 0 };
     }
-    let l = listing::list(b, k);
-    let n = l.n;
+    let z = book::read_sizes(b);
+    let mut costs = listing::no_costs();
+    let mut plans = listing::no_plans();
+    let n = engine::list(b, k, &mut costs, &mut plans);
     if n == 0 {
         return Written { no: 28, length: 0 };
     }
-    let s = l.s;
-    let long = 12 + 4 * b.len() + 8 * n + n * s;
+    let long = 12 + 4 * b.len() + 8 * n + n * z.s;
     if out.len() < long {
         return Written { no: 18, length: 0 };
     }
-    record::put_record(b, k, n, s, &l.costs, &l.plans, out);
+    record::put_record(b, k, n, z.s, &costs, &plans, out);
     Written {
         no: 0,
         length: long,

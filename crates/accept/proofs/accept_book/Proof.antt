@@ -13,6 +13,8 @@ use Rattle.asked.specs.Asked.{Asked, Counted, countedNumber, counted-says, coun
 use Rattle.record.specs.declared.Listing.{Listing}
 use Rattle.record.specs.Listed.{Listed}
 use Rattle.record.specs.Passed.{head-says, accept-says}
+use Rattle.index.proofs.Lines.{headed}
+use Rattle.listing.proofs.Listed.{listed, room}
 use Rattle.accept.proofs.accept_book.Statement.{statement}
 use Rattle.accept.proofs.accept_book.Tie as tie
 
@@ -36,46 +38,87 @@ returns c =
     let e = goes-on (c .before .before .before .before .pre .0) (stops (n ∙ counted-stops _ _ (λ z. h (n ∙ z))) _ h) in
     (e, leaves e h _ _, leaves e h _ _)
 
+-- 1 to 14 are passed
+module _ (c : tie.Else1) where
+  abbrev s : tie.Start
+  s = c .before .before .before .before
+
+  counted : Counted (s .args .b .now) (c .before .before .carried-k .result)
+  counted = counted-says _ _ (sym (c .before .counted-number .ensures) ∙ c .if1 .left)
+
+  carried-counted : Counted (carriedBook (s .args .r .now)) (carriedK (s .args .r .now))
+  carried-counted = counted-says _ _ (sym (counted-is (c .before)) ∙ c .if1 .left)
+
+read-sizes-requires : tie.Need-read-sizes-requires
+read-sizes-requires c κs = headed _ (counted c .ok)
+
+no-costs-requires : tie.Need-no-costs-requires
+no-costs-requires c κs = tt
+
+no-plans-requires : tie.Need-no-plans-requires
+no-plans-requires c κs = tt
+
+slice-aggregate-list : tie.Need-slice-aggregate-list
+slice-aggregate-list c = search needs
+
+slice-aggregate-list-2 : tie.Need-slice-aggregate-list-2
+slice-aggregate-list-2 c = search needs
+
 list-requires : tie.Need-list-requires
-list-requires c κs = counted-says _ _ (sym (c .before .counted-number .ensures) ∙ c .if1 .left)
+list-requires c κs =
+    let p = c .before .before in
+    let a = counted (p .before .before .before) in
+    (a .ok, a .low, a .high, room _ _ a (p .before .no-costs .ensures) (p .no-plans .ensures))
 
 -- the list is that of what is carried
 carried : {b b′ : Words} {k k′ : ℕ} {l : Listing} → b ≡ b′ → k ≡ k′ → Listed b k l → Listed b′ k′ l
 carried eb ek h = rw (← eb, ← ek) h
 
-module _ (c : tie.After-list) where
-  abbrev s : tie.Start
-  s = c .before .before .before .before .before
+module _ (l : tie.After-list) where
+  abbrev z : tie.After-read-sizes
+  z = l .before .before .before .before .before
 
-  counted : Counted (carriedBook (s .args .r .now)) (carriedK (s .args .r .now))
-  counted = counted-says _ _ (sym (counted-is (c .before .before)) ∙ c .before .if1 .left)
+  abbrev e : tie.Else1
+  e = z .before
 
-  listed : Listed (carriedBook (s .args .r .now)) (carriedK (s .args .r .now)) (c .list .result)
-  listed = carried (s .pre .1) (c .before .before .before .carried-k .ensures .0) (c .list .ensures)
+  abbrev list : Listing
+  list = record { n = l .list .result; s = z .read-sizes .result .s; costs = l .list .last .1 .1 .0; plans = l .list .last .1 .1 .1 .0 }
+
+  is-listed : Listed (carriedBook (s e .args .r .now)) (carriedK (s e .args .r .now)) list
+  is-listed =
+      carried (s e .pre .1) (e .before .before .carried-k .ensures .0) (listed _ _ (counted e) list (z .read-sizes .ensures .s-is) (l .list .ensures))
 
 returns-2 : tie.Need-returns-2
 unfolding acceptNumber acceptStates acceptCount
 returns-2 c =
-    let l = c .before in
-    let e = goes-on (s l .pre .0) (stops (sym (list-none _ _ (counted l) (listed l .count) (c .if2 .taken))) _ (omega arith)) in
-    (e, leaves e (omega arith) _ _, leaves e (omega arith) _ _)
+    let l = c .before .before .before in
+    let n = goes-on (s (e l) .pre .0) (stops (sym (list-none _ _ (carried-counted (e l)) (is-listed l .count) (c .if2 .taken))) _ (omega arith)) in
+    (n, leaves n (omega arith) _ _, leaves n (omega arith) _ _)
 
-asked : (c : tie.Else2) → let r = s (c .before) .args .r .now in Asked (carriedBook r) (carriedK r)
-asked c = list-some _ _ (counted (c .before)) (listed (c .before) .count) (c .if2 .left)
+-- some policy is listed
+module _ (c : tie.Else2) where
+  abbrev l : tie.After-list
+  l = c .before .before .before
+
+  abbrev st : tie.Start
+  st = s (e l)
+
+  asked : Asked (carriedBook (st .args .r .now)) (carriedK (st .args .r .now))
+  asked = list-some _ _ (carried-counted (e l)) (is-listed l .count) (c .if2 .left)
 
 tail-number-requires : tie.Need-tail-number-requires
 tail-number-requires c κs =
-    let d = c .before .before .before in
-    (s (d .before) .pre .0, asked d, listed (d .before))
+    let d = c .before .before in
+    (st d .pre .0, asked d, is-listed (l d))
 
 -- 20 and 21 are asked
 module _ (c : tie.After-tail-number) where
   abbrev d : tie.Else2
-  d = c .before .before .before .before
+  d = c .before .before .before
 
-  last-is : c .tail-number .result ≡ acceptNumber (s (d .before) .args .r .now)
+  last-is : c .tail-number .result ≡ acceptNumber (st d .args .r .now)
   unfolding acceptNumber
-  last-is = goes-on (s (d .before) .pre .0) (goes-on (asked-passed _ _ (asked d)) (c .tail-number .ensures))
+  last-is = goes-on (st d .pre .0) (goes-on (asked-passed _ _ (asked d)) (c .tail-number .ensures))
 
 returns-3 : tie.Need-returns-3
 unfolding acceptStates acceptCount
@@ -87,9 +130,9 @@ returns-3 c =
 returns-4 : tie.Need-returns-4
 unfolding acceptStates acceptCount
 returns-4 c =
-    let e = sym (c .if3 .left) ∙ last-is (c .before) in
-    let l = listed (d (c .before) .before) in
-    (e, gives (sym e) 0 (l .states), gives (sym e) 0 (l .count ∙ sym (accept-says _ (sym e) .ranked .count)))
+    let n = sym (c .if3 .left) ∙ last-is (c .before) in
+    let h = is-listed (l (d (c .before))) in
+    (n, gives (sym n) 0 (h .states), gives (sym n) 0 (h .count ∙ sym (accept-says _ (sym n) .ranked .count)))
 
 pub accept-book-spec : {M : Type 1} → statement M
 accept-book-spec =
@@ -98,6 +141,11 @@ accept-book-spec =
     carried-k-requires
     counted-number-requires
     returns
+    read-sizes-requires
+    no-costs-requires
+    no-plans-requires
+    slice-aggregate-list
+    slice-aggregate-list-2
     list-requires
     returns-2
     tail-number-requires

@@ -11,7 +11,12 @@ use Rattle.model.specs.Calls.{writeNumber, writeLength, writeRecord}
 use Rattle.questions.specs.FirstNo.{fails, passes, none}
 use Rattle.questions.specs.Answers.{stops, goes-on, leaves, gives}
 use Rattle.asked.specs.Asked.{Asked, Counted, counted-says, counted-stops, list-none, list-some, asked-passed}
+use Rattle.index.proofs.Lines.{headed}
+use Rattle.record.specs.declared.Listing.{Listing}
+use Rattle.record.specs.Listed.{Listed}
+use Rattle.record.specs.Lengths.{book-length}
 use Rattle.record.proofs.Parts.{record-long}
+use Rattle.listing.proofs.Listed.{listed, room}
 use Rattle.write.proofs.write.Statement.{statement}
 use Rattle.write.proofs.write.Tie as tie
 
@@ -29,62 +34,91 @@ returns c =
 counted : (c : tie.Else1) → let s = c .before .before .before in Counted (s .args .b .now) (s .args .k)
 counted c = counted-says _ _ (sym (c .before .counted-number .ensures) ∙ c .if1 .left)
 
+read-sizes-requires : tie.Need-read-sizes-requires
+read-sizes-requires c κs = headed _ (counted c .ok)
+
+no-costs-requires : tie.Need-no-costs-requires
+no-costs-requires c κs = tt
+
+no-plans-requires : tie.Need-no-plans-requires
+no-plans-requires c κs = tt
+
+slice-aggregate-list : tie.Need-slice-aggregate-list
+slice-aggregate-list c = search needs
+
+slice-aggregate-list-2 : tie.Need-slice-aggregate-list-2
+slice-aggregate-list-2 c = search needs
+
 list-requires : tie.Need-list-requires
-list-requires c κs = counted c
+list-requires c κs =
+    let p = c .before .before in
+    let a = counted (p .before .before .before) in
+    (a .ok, a .low, a .high, room _ _ a (p .before .no-costs .ensures) (p .no-plans .ensures))
+
+-- the list stands in the arrays
+module _ (l : tie.After-list) where
+  abbrev z : tie.After-read-sizes
+  z = l .before .before .before .before .before
+
+  abbrev s : tie.Start
+  s = z .before .before .before .before
+
+  abbrev list : Listing
+  list = record { n = l .list .result; s = z .read-sizes .result .s; costs = l .list .last .1 .1 .0; plans = l .list .last .1 .1 .1 .0 }
+
+  is-listed : Listed (s .args .b .now) (s .args .k) list
+  is-listed = listed _ _ (counted (z .before)) list (z .read-sizes .ensures .s-is) (l .list .ensures)
 
 returns-2 : tie.Need-returns-2
 unfolding writeNumber writeLength writeRecord
 returns-2 c =
-    let l = c .before in
-    let e = stops (sym (list-none _ _ (counted (l .before)) (l .list .ensures .count) (c .if2 .taken))) _ (omega arith) in
+    let l = c .before .before .before in
+    let e = stops (sym (list-none _ _ (counted (z l .before)) (l .list .ensures .count) (c .if2 .taken))) _ (omega arith) in
     (e, leaves e (omega arith) _ _, leaves e (omega arith) _ _)
 
 -- some policy is listed
 module _ (c : tie.Else2) where
   abbrev l : tie.After-list
-  l = c .before
+  l = c .before .before .before
 
-  abbrev s : tie.Start
-  s = l .before .before .before .before
+  asked : Asked (s l .args .b .now) (s l .args .k)
+  asked = list-some _ _ (counted (z l .before)) (l .list .ensures .count) (c .if2 .left)
 
-  asked : Asked (s .args .b .now) (s .args .k)
-  asked = list-some _ _ (counted (l .before)) (l .list .ensures .count) (c .if2 .left)
-
-  long-is : length (recordBytes (s .args .b .now) (s .args .k)) ≡ 12 + 4 * length (s .args .b .now) + 8 * l .list .result .n + l .list .result .n * l .list .result .s
-  long-is = let long = record-long _ _ _ (l .list .ensures) (asked .ok) in omega (arith, long)
+  long-is : length (recordBytes (s l .args .b .now) (s l .args .k)) ≡ 12 + 4 * length (s l .args .b .now) + 8 * list l .n + list l .n * list l .s
+  long-is = let long = record-long _ _ _ (is-listed l) (asked .ok) in omega (arith, long)
 
 mul-long : tie.Need-mul-long
-mul-long c = search needs
+mul-long c = omega (arith, book-length _ (asked c .ok))
 
 add-long : tie.Need-add-long
-add-long c = search needs
+add-long c = omega (arith, book-length _ (asked c .ok))
 
 mul-long-2 : tie.Need-mul-long-2
-mul-long-2 c = search needs
+mul-long-2 c = omega (arith, is-listed (l c) .held .few)
 
 add-long-2 : tie.Need-add-long-2
-add-long-2 c = search needs
+add-long-2 c = omega (arith, book-length _ (asked c .ok), is-listed (l c) .held .few)
 
 mul-long-3 : tie.Need-mul-long-3
-mul-long-3 c = search needs
+mul-long-3 c = omega (arith, is-listed (l (c .before)) .held .small)
 
 add-long-3 : tie.Need-add-long-3
-add-long-3 c = search needs
+add-long-3 c = let d = c .before in omega (arith, book-length _ (asked d .ok), is-listed (l d) .held)
 
 returns-3 : tie.Need-returns-3
 unfolding writeNumber writeLength writeRecord
 returns-3 c =
-    let d = c .before in
-    let a = s d .args in
+    let d = c .before .before in
+    let a = s (l d) .args in
     let e : 18 ≡ writeNumber (a .b .now) (a .k) (length (a .out .now))
     = goes-on (asked-passed _ _ (asked d)) (sym (fails _ _ _ (lt-leb (length (recordBytes (a .b .now) (a .k))) _ (omega (arith, c .if3 .taken, long-is d))))) in
     (e, leaves e (λ z. omega arith) _ _, leaves e (λ z. omega arith) _ _)
 
 put-record-requires : tie.Need-put-record-requires
 put-record-requires c κs =
-    let e = c .before .before .before .before in
-    let d = e .before in
-    (asked d, l d .list .ensures, omega (arith, e .if3 .left, long-is d))
+    let e = c .before .before .before in
+    let d = e .before .before in
+    (asked d, is-listed (l d), omega (arith, e .if3 .left, long-is d))
 
 same-length : tie.Need-same-length
 same-length c = search needs
@@ -93,9 +127,9 @@ returns-4 : tie.Need-returns-4
 unfolding writeNumber writeLength writeRecord
 returns-4 c =
     let p = c .before .before in
-    let f = p .before .before .before .before .before in
-    let d = f .before in
-    let a = s d .args in
+    let f = p .before .before .before .before in
+    let d = f .before .before in
+    let a = s (l d) .args in
     let e : 0 ≡ writeNumber (a .b .now) (a .k) (length (a .out .now))
     = goes-on (asked-passed _ _ (asked d)) (sym (passes _ _ _ (le-leb (length (recordBytes (a .b .now) (a .k))) _ (omega (arith, f .if3 .left, long-is d))) ∙ none _)) in
     (e, gives (sym e) _ (sym (long-is d)), gives (sym e) _ (p .put-record .ensures))
@@ -106,6 +140,11 @@ write-spec =
     (tie.spec
     counted-number-requires
     returns
+    read-sizes-requires
+    no-costs-requires
+    no-plans-requires
+    slice-aggregate-list
+    slice-aggregate-list-2
     list-requires
     returns-2
     mul-long
