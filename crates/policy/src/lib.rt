@@ -2,19 +2,16 @@
 // comes there is its reach weight: the state is reached if that is not 0, and then adds its action's cost times the weight.
 use book::Sizes;
 use book::Stage;
-use lines::Lines;
 ghost use mathlib.Core.Path.{_≡_};
 ghost use mathlib.Core.Bool.{true};
 ghost use Prim.Native.Nat.{_<_};
-ghost use lib.ListN.{length};
 ghost use Rattle.model.specs.Lists.{isIn};
-ghost use Rattle.model.specs.Model.{stateCount, actionCount, action, options};
+ghost use Rattle.model.specs.Model.{stateCount, actionCount, options};
 ghost use Rattle.model.specs.Policy.{allowed, isPolicy};
 ghost use Rattle.model.specs.Path.{policyCost};
-ghost use Rattle.splits.specs.Reach.{spread};
 ghost use Rattle.index.specs.Index.{Checked};
-ghost use Rattle.lines.specs.Lines.{wordOf, LinesOf};
-ghost use Rattle.reach.specs.Weights.{weightAt, firstWeights, Holds, Room};
+ghost use Rattle.lines.specs.Lines.{wordOf};
+ghost use Rattle.reach.specs.Weights.{firstWeights, Holds};
 
 // Is a slice of bytes a policy, and what it costs if it is.
 pub struct Judged {
@@ -46,21 +43,6 @@ fn byte_allowed(b: &[i32], z: Sizes, p: usize, reached: bool, c: usize, at: usiz
     !lines::closed_at(b, z, p, c, at)
 }
 
-// Adds y times its weight to the next state of each transition of action c of state p, whose lines are a.
-fn spread_lines(b: &[i32], a: Lines, p: usize, c: usize, y: usize, w: &mut [usize; 64])
-    requires { ⌜ LinesOf (now b) p c a × (length (now w) ≡ 64) × Room y (action (now b) p c .transitions) (now w) ⌝ }
-    ensures { λ _. ⌜ Holds (now (w .exit)) (spread y (action (now (b .entry)) p c .transitions) (weightAt (now (w .entry)))) ⌝ }
-{
-    let r = a.r;
-    let mut i: usize = 0;
-    while i < r {
-        let q = lines::next(b, a, p, c, i);
-        let weight = lines::weight(b, a, p, c, i);
-        w[q] = w[q] + y * weight;
-        i = i + 1;
-    }
-}
-
 // 17, and the cost: is the slice a policy of a checked book, and what does it cost?
 pub fn judge(b: &[i32], z: Sizes, plan: &[u8]) -> Judged
     requires { ⌜ Checked (now b) z ⌝ }
@@ -89,7 +71,7 @@ pub fn judge(b: &[i32], z: Sizes, plan: &[u8]) -> Judged
             let a = lines::at_word(b, z, p, c, f.at, t.end);
             let unit = costs::unit_by(b, z, t, p);
             sum = costs::mul_add(sum, y * unit, lines::cost(b, a, p, c));
-            spread_lines(b, a, p, c, y, &mut w);
+            reach::spread_lines(b, a, p, c, y, &mut w);
         }
         at = f.after;
         p = p + 1;

@@ -1,5 +1,6 @@
 // The reach weights of a policy of a checked book. Next states are later states, so one pass over the states in order computes all of them.
 use book::Sizes;
+use lines::Lines;
 ghost use mathlib.Core.Path.{_≡_};
 ghost use mathlib.Core.Bool.{true};
 ghost use Prim.Native.Nat.{_<_};
@@ -7,6 +8,7 @@ ghost use lib.ListN.{length};
 ghost use Rattle.model.specs.Model.{stateCount, actionCount, action};
 ghost use Rattle.model.specs.Policy.{isPolicy};
 ghost use Rattle.index.specs.Index.{Indexed};
+ghost use Rattle.lines.specs.Lines.{LinesOf};
 ghost use Rattle.splits.specs.Reach.{spread};
 ghost use Rattle.reach.specs.Weights.{weightAt, firstWeights, Holds, Room, WeightsOf};
 
@@ -18,7 +20,22 @@ fn first_weights(w: &mut [usize; 64])
     w[0] = 1;
 }
 
-// Adds y times its weight to the next state of each transition of action c of state p.
+// Adds y times its weight to the next state of each transition of action c of state p, whose lines are a.
+pub fn spread_lines(b: &[i32], a: Lines, p: usize, c: usize, y: usize, w: &mut [usize; 64])
+    requires { ⌜ LinesOf (now b) p c a × (length (now w) ≡ 64) × Room y (action (now b) p c .transitions) (now w) ⌝ }
+    ensures { λ _. ⌜ Holds (now (w .exit)) (spread y (action (now (b .entry)) p c .transitions) (weightAt (now (w .entry)))) ⌝ }
+{
+    let r = a.r;
+    let mut i: usize = 0;
+    while i < r {
+        let q = lines::next(b, a, p, c, i);
+        let weight = lines::weight(b, a, p, c, i);
+        w[q] = w[q] + y * weight;
+        i = i + 1;
+    }
+}
+
+// The same of the action by its number.
 fn spread_action(
     b: &[i32],
     z: Sizes,
@@ -32,14 +49,7 @@ fn spread_action(
     ensures { λ _. ⌜ Holds (now (w .exit)) (spread y (action (now (b .entry)) p c .transitions) (weightAt (now (w .entry)))) ⌝ }
 {
     let a = lines::of_action(b, z, x, p, c);
-    let r = a.r;
-    let mut i: usize = 0;
-    while i < r {
-        let q = lines::next(b, a, p, c, i);
-        let weight = lines::weight(b, a, p, c, i);
-        w[q] = w[q] + y * weight;
-        i = i + 1;
-    }
+    spread_lines(b, a, p, c, y, w);
 }
 
 // Fills w with the reach weights of the policy, at the number of each state.

@@ -8,11 +8,11 @@ use lib.ListN.{drop, getD}
 use Rattle.model.specs.Model.{action}
 use Rattle.splits.specs.Reach.{spread}
 use Rattle.lines.proofs.Steps.{one-done, all-done}
 use Rattle.reach.specs.Weights.{weightAt}
 use Rattle.reach.proofs.Spreading.{ToSpread, sum-small, one-spread, all-spread}
 use borrow.Author.Needs.{needs}
-use Rattle.policy.proofs.spread_lines.Statement.{statement}
-use Rattle.policy.proofs.spread_lines.Tie as tie
+use Rattle.reach.proofs.spread_lines.Statement.{statement}
+use Rattle.reach.proofs.spread_lines.Tie as tie
 
 abbrev Inv-loop : tie.InvT-loop
 Inv-loop b a p c y w₀ r i₀ w i =
