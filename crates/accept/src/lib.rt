@@ -24,7 +24,7 @@ fn accept_book(r: &[u8], b: &[i32]) -> Accepted
     let z = book::read_sizes(b);
     let mut costs = listing::no_costs();
     let mut plans = listing::no_plans();
-    let n = engine::list(b, k, &mut costs, &mut plans);
+    let n = listing::fill(b, k, &mut costs, &mut plans);
     if n == 0 {
         return Accepted { no: 28, s: 0, k: 0 };
     }

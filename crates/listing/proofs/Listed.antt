@@ -1,6 +1,6 @@
 -- The largest list fits the arrays, and the ranking that stands at their fronts is the list.
 -- Assumes nothing.
-use mathlib.Core.Path.{_≡_, sym, ap, _∙_}
+use mathlib.Core.Path.{_≡_, sym, ap, _∙_, subst}
 use mathlib.Core.List.{List}
 use Prim.Native.Nat.{ℕ, _*_, _≤_}
 use native.Mathlib.Nat.{mul-le-mul}
@@ -49,3 +49,8 @@ module _ (ws : Words) (k : ℕ) (a : Counted ws k) where
   -- there is room for the first k
   pub room : {costs : List ℤ} {plans : List ℕ} → length costs ≡ 64 → length plans ≡ 4096 → Roomy k (stateCount ws) costs plans
   room c p = record { costs-room = omega (arith, c, a .high); plans-room = omega (arith, p, most k (a .high)) }
+
+-- the number of states as a call has read it
+pub by-states : {ws : Words} {k n s : ℕ} {costs : List ℤ} {plans : List ℕ} → s ≡ stateCount ws
+    → Listed ws k (record { n = n; s = stateCount ws; costs = costs; plans = plans }) → Listed ws k (record { n = n; s = s; costs = costs; plans = plans })
+by-states {ws} {k} {n} {s} {costs} {plans} e h = subst (λ (m : ℕ). Listed ws k (record { n = n; s = m; costs = costs; plans = plans })) (sym e) h

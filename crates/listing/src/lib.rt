@@ -2,6 +2,7 @@
 use record::Listing;
 ghost use mathlib.Core.Path.{_≡_};
 ghost use lib.ListN.{length};
+ghost use Rattle.model.specs.Model.{stateCount};
 ghost use Rattle.asked.specs.Asked.{Counted};
 ghost use Rattle.record.specs.Listed.{Listed};
 
@@ -17,7 +18,16 @@ pub fn no_plans() -> [u8; 4096]
     [0; 4096]
 }
 
-// The first k policies of a book that passes the questions 1 to 14, with their costs: none exactly if it has none, which is question 28.
+// Fills the arrays with the first k policies of a book that passes the questions 1 to 14, and their costs; gives how many there are: none exactly if the
+// book has none, which is question 28.
+pub fn fill(b: &[i32], k: usize, costs: &mut [i64], plans: &mut [u8]) -> usize
+    requires { ⌜ Counted (now b) k × (length (now costs) ≡ 64) × (length (now plans) ≡ 4096) ⌝ }
+    ensures { λ n. ⌜ Listed (now (b .entry)) k (record { n = n; s = stateCount (now (b .entry)); costs = now (costs .exit); plans = now (plans .exit) }) ⌝ }
+{
+    engine::list(b, k, costs, plans)
+}
+
+// The same by value.
 pub fn list(b: &[i32], k: usize) -> Listing
     requires { ⌜ Counted (now b) k ⌝ }
     ensures { λ l. ⌜ Listed (now (b .entry)) k l ⌝ }
@@ -25,7 +35,7 @@ pub fn list(b: &[i32], k: usize) -> Listing
     let z = book::read_sizes(b);
     let mut costs = no_costs();
     let mut plans = no_plans();
-    let n = engine::list(b, k, &mut costs, &mut plans);
+    let n = fill(b, k, &mut costs, &mut plans);
     Listing {
         n: n,
         s: z.s,

@@ -20,7 +20,7 @@ pub fn write(b: &[i32], k: usize, out: &mut [u8]) -> Written
     let z = book::read_sizes(b);
     let mut costs = listing::no_costs();
     let mut plans = listing::no_plans();
-    let n = engine::list(b, k, &mut costs, &mut plans);
+    let n = listing::fill(b, k, &mut costs, &mut plans);
     if n == 0 {
         return Written { no: 28, length: 0 };
     }

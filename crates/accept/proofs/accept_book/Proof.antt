@@ -14,7 +14,7 @@ use Rattle.record.specs.declared.Listing.{Listing}
 use Rattle.record.specs.Listed.{Listed}
 use Rattle.record.specs.Passed.{head-says, accept-says}
 use Rattle.index.proofs.Lines.{headed}
-use Rattle.listing.proofs.Listed.{listed, room}
+use Rattle.listing.proofs.Listed.{by-states}
 use Rattle.accept.proofs.accept_book.Statement.{statement}
 use Rattle.accept.proofs.accept_book.Tie as tie
 
@@ -58,23 +58,22 @@ no-costs-requires c κs = tt
 no-plans-requires : tie.Need-no-plans-requires
 no-plans-requires c κs = tt
 
-slice-aggregate-list : tie.Need-slice-aggregate-list
-slice-aggregate-list c = search needs
+slice-aggregate-fill : tie.Need-slice-aggregate-fill
+slice-aggregate-fill c = search needs
 
-slice-aggregate-list-2 : tie.Need-slice-aggregate-list-2
-slice-aggregate-list-2 c = search needs
+slice-aggregate-fill-2 : tie.Need-slice-aggregate-fill-2
+slice-aggregate-fill-2 c = search needs
 
-list-requires : tie.Need-list-requires
-list-requires c κs =
+fill-requires : tie.Need-fill-requires
+fill-requires c κs =
     let p = c .before .before in
-    let a = counted (p .before .before .before) in
-    (a .ok, a .low, a .high, room _ _ a (p .before .no-costs .ensures) (p .no-plans .ensures))
+    (counted (p .before .before .before), p .before .no-costs .ensures, p .no-plans .ensures)
 
 -- the list is that of what is carried
 carried : {b b′ : Words} {k k′ : ℕ} {l : Listing} → b ≡ b′ → k ≡ k′ → Listed b k l → Listed b′ k′ l
 carried eb ek h = rw (← eb, ← ek) h
 
-module _ (l : tie.After-list) where
+module _ (l : tie.After-fill) where
   abbrev z : tie.After-read-sizes
   z = l .before .before .before .before .before
 
@@ -82,11 +81,11 @@ module _ (l : tie.After-list) where
   e = z .before
 
   abbrev list : Listing
-  list = record { n = l .list .result; s = z .read-sizes .result .s; costs = l .list .last .1 .1 .0; plans = l .list .last .1 .1 .1 .0 }
+  list = record { n = l .fill .result; s = z .read-sizes .result .s; costs = l .fill .last .1 .1 .0; plans = l .fill .last .1 .1 .1 .0 }
 
   is-listed : Listed (carriedBook (s e .args .r .now)) (carriedK (s e .args .r .now)) list
   is-listed =
-      carried (s e .pre .1) (e .before .before .carried-k .ensures .0) (listed _ _ (counted e) list (z .read-sizes .ensures .s-is) (l .list .ensures))
+      carried (s e .pre .1) (e .before .before .carried-k .ensures .0) (by-states (z .read-sizes .ensures .s-is) (l .fill .ensures))
 
 returns-2 : tie.Need-returns-2
 unfolding acceptNumber acceptStates acceptCount
@@ -97,7 +96,7 @@ returns-2 c =
 
 -- some policy is listed
 module _ (c : tie.Else2) where
-  abbrev l : tie.After-list
+  abbrev l : tie.After-fill
   l = c .before .before .before
 
   abbrev st : tie.Start
@@ -144,9 +143,9 @@ accept-book-spec =
     read-sizes-requires
     no-costs-requires
     no-plans-requires
-    slice-aggregate-list
-    slice-aggregate-list-2
-    list-requires
+    slice-aggregate-fill
+    slice-aggregate-fill-2
+    fill-requires
     returns-2
     tail-number-requires
     returns-3

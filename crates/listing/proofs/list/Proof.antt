@@ -1,7 +1,7 @@
--- The list stands at the fronts of the arrays.
+-- The list is that of the arrays.
 -- Assumes nothing.
 use Rattle.index.proofs.Lines.{headed}
-use Rattle.listing.proofs.Listed.{listed, room}
+use Rattle.listing.proofs.Listed.{by-states}
 use borrow.Author.Needs.{needs}
 use Rattle.listing.proofs.list.Statement.{statement}
 use Rattle.listing.proofs.list.Tie as tie
@@ -15,28 +15,19 @@ no-costs-requires c κs = search needs
 no-plans-requires : tie.Need-no-plans-requires
 no-plans-requires c κs = search needs
 
-slice-aggregate-list : tie.Need-slice-aggregate-list
-slice-aggregate-list c = search needs
+slice-aggregate-fill : tie.Need-slice-aggregate-fill
+slice-aggregate-fill c = search needs
 
-slice-aggregate-list-2 : tie.Need-slice-aggregate-list-2
-slice-aggregate-list-2 c = search needs
+slice-aggregate-fill-2 : tie.Need-slice-aggregate-fill-2
+slice-aggregate-fill-2 c = search needs
 
-list-requires : tie.Need-list-requires
-list-requires c κs =
-    let d = c .before .before in
-    let s = d .before .before .before in
-    let a = s .pre in (
-      a .ok,
-      a .low,
-      a .high,
-      room _ _ a (d .before .no-costs .ensures) (d .no-plans .ensures),
-    )
+fill-requires : tie.Need-fill-requires
+fill-requires c κs = search needs
 
 returns : tie.Need-returns
 returns c =
-    let f = c .before .before .list .ensures in
-    let d = c .before .before .before .before .before .before .before in
-    listed _ _ (d .before .pre) _ (d .read-sizes .ensures .s-is) f
+    let f = c .before .before in
+    by-states (f .before .before .before .before .before .read-sizes .ensures .s-is) (f .fill .ensures)
 
 pub list-spec : {M : Type 1} → statement M
 list-spec =
@@ -45,7 +36,7 @@ list-spec =
     read-sizes-requires
     no-costs-requires
     no-plans-requires
-    slice-aggregate-list
-    slice-aggregate-list-2
-    list-requires
+    slice-aggregate-fill
+    slice-aggregate-fill-2
+    fill-requires
     returns)

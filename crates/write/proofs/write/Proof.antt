@@ -16,7 +16,7 @@ use Rattle.record.specs.declared.Listing.{Listing}
 use Rattle.record.specs.Listed.{Listed}
 use Rattle.record.specs.Lengths.{book-length}
 use Rattle.record.proofs.Parts.{record-long}
-use Rattle.listing.proofs.Listed.{listed, room}
+use Rattle.listing.proofs.Listed.{by-states}
 use Rattle.write.proofs.write.Statement.{statement}
 use Rattle.write.proofs.write.Tie as tie
 
@@ -43,20 +43,19 @@ no-costs-requires c κs = tt
 no-plans-requires : tie.Need-no-plans-requires
 no-plans-requires c κs = tt
 
-slice-aggregate-list : tie.Need-slice-aggregate-list
-slice-aggregate-list c = search needs
+slice-aggregate-fill : tie.Need-slice-aggregate-fill
+slice-aggregate-fill c = search needs
 
-slice-aggregate-list-2 : tie.Need-slice-aggregate-list-2
-slice-aggregate-list-2 c = search needs
+slice-aggregate-fill-2 : tie.Need-slice-aggregate-fill-2
+slice-aggregate-fill-2 c = search needs
 
-list-requires : tie.Need-list-requires
-list-requires c κs =
+fill-requires : tie.Need-fill-requires
+fill-requires c κs =
     let p = c .before .before in
-    let a = counted (p .before .before .before) in
-    (a .ok, a .low, a .high, room _ _ a (p .before .no-costs .ensures) (p .no-plans .ensures))
+    (counted (p .before .before .before), p .before .no-costs .ensures, p .no-plans .ensures)
 
 -- the list stands in the arrays
-module _ (l : tie.After-list) where
+module _ (l : tie.After-fill) where
   abbrev z : tie.After-read-sizes
   z = l .before .before .before .before .before
 
@@ -64,25 +63,25 @@ module _ (l : tie.After-list) where
   s = z .before .before .before .before
 
   abbrev list : Listing
-  list = record { n = l .list .result; s = z .read-sizes .result .s; costs = l .list .last .1 .1 .0; plans = l .list .last .1 .1 .1 .0 }
+  list = record { n = l .fill .result; s = z .read-sizes .result .s; costs = l .fill .last .1 .1 .0; plans = l .fill .last .1 .1 .1 .0 }
 
   is-listed : Listed (s .args .b .now) (s .args .k) list
-  is-listed = listed _ _ (counted (z .before)) list (z .read-sizes .ensures .s-is) (l .list .ensures)
+  is-listed = by-states (z .read-sizes .ensures .s-is) (l .fill .ensures)
 
 returns-2 : tie.Need-returns-2
 unfolding writeNumber writeLength writeRecord
 returns-2 c =
     let l = c .before .before .before in
-    let e = stops (sym (list-none _ _ (counted (z l .before)) (l .list .ensures .count) (c .if2 .taken))) _ (omega arith) in
+    let e = stops (sym (list-none _ _ (counted (z l .before)) (l .fill .ensures .count) (c .if2 .taken))) _ (omega arith) in
     (e, leaves e (omega arith) _ _, leaves e (omega arith) _ _)
 
 -- some policy is listed
 module _ (c : tie.Else2) where
-  abbrev l : tie.After-list
+  abbrev l : tie.After-fill
   l = c .before .before .before
 
   asked : Asked (s l .args .b .now) (s l .args .k)
-  asked = list-some _ _ (counted (z l .before)) (l .list .ensures .count) (c .if2 .left)
+  asked = list-some _ _ (counted (z l .before)) (l .fill .ensures .count) (c .if2 .left)
 
   long-is : length (recordBytes (s l .args .b .now) (s l .args .k)) ≡ 12 + 4 * length (s l .args .b .now) + 8 * list l .n + list l .n * list l .s
   long-is = let long = record-long _ _ _ (is-listed l) (asked .ok) in omega (arith, long)
@@ -143,9 +142,9 @@ write-spec =
     read-sizes-requires
     no-costs-requires
     no-plans-requires
-    slice-aggregate-list
-    slice-aggregate-list-2
-    list-requires
+    slice-aggregate-fill
+    slice-aggregate-fill-2
+    fill-requires
     returns-2
     mul-long
     add-long
