@@ -10,20 +10,18 @@ use lib.ListN.{length, getD, take}
 use Rattle.model.specs.Lists.{forEach}
 use Rattle.model.specs.Order.{ranking, rankingCosts}
 use Rattle.model.specs.Calls.{over}
-use Rattle.model.specs.Model.{Words, stateCount}
+use Rattle.model.specs.Model.{Words}
 use Rattle.model.specs.Policy.{Policy}
 use Rattle.accepted.specs.Demands.{bestPolicy}
 use Rattle.accepted.specs.Options.{Alive}
-use Rattle.laws.specs.Members.{Every}
 use Rattle.book.specs.declared.Sizes.{Sizes}
 use Rattle.index.specs.Index.{Indexed}
 use Rattle.nexts.specs.Nexts.{NextsOf}
 use Rattle.build.specs.Best.{RowsOf, BestOf, SecondOf}
-use Rattle.pool.specs.Entries.{entries, firstEntry, Formed, beyondOf}
-use Rattle.pool.specs.declared.Pool.{Pool}
+use Rattle.pool.specs.Entries.{entries, beyondOf}
 use Rattle.splits.specs.Search.{admit}
 use Rattle.stored.specs.Entry.{Entry, earlierEntry}
-use Rattle.stored.specs.Children.{costOf, Right, childEntries}
+use Rattle.stored.specs.Children.{costOf, childEntries}
 use Rattle.stored.specs.Runs.{itself, childrenOf, planOf, costIn}
 use Rattle.child.specs.declared.Child.{Child}
 use Rattle.child.specs.declared.Parent.{Parent}

@@ -9,13 +9,11 @@ use child::Child;
 use child::Parent;
 use pool::Pool;
 ghost use mathlib.Core.Path.{_≡_};
-ghost use mathlib.Core.Bool.{true};
 ghost use mathlib.Core.List.{[], _∷_};
 ghost use Prim.Native.Nat.{_+_, _*_, _<_, _≤_};
 ghost use lib.ListN.{length, getD};
 ghost use Rattle.model.specs.Model.{stateCount, action};
 ghost use Rattle.model.specs.Questions.{bookNumber};
-ghost use Rattle.model.specs.Policy.{hasPolicy};
 ghost use Rattle.accepted.specs.Options.{Feasible, Alive};
 ghost use Rattle.index.specs.Index.{Checked};
 ghost use Rattle.nexts.specs.Nexts.{NextsOf};
@@ -213,7 +211,7 @@ pub fn list(b: &[i32], k: usize, costs: &mut [i64], plans: &mut [u8]) -> usize
         return 0;
     }
     let mut nx = nexts::no_sets();
-    nexts::fill_sets(b, z, &x, &mut nx);
+    nexts::fill_sets(b, z, &x, &m.off, &mut nx);
     let mut q = table::zero_rows();
     let mut v = table::zeros();
     table::fill_table(b, z, &x, &m.off, &mut q, &mut v);

@@ -1,13 +1,11 @@
 -- The rows of the table, filled one entry at a time and one state at a time.
 -- Assumes nothing.
 use mathlib.Core.Path.{_≡_, refl, sym, ap, _∙_, subst}
-use mathlib.Core.Bool.{true, false, not}
 use mathlib.Core.Logic.{_⊎_, inl, inr}
 use mathlib.Core.List.{List}
 use Prim.Native.Nat.{ℕ, _+_, _*_, _≤_, _<_}
 use native.Mathlib.Nat.{eq-or-lt-of-le}
 use native.Mathlib.Omega.{arith}
-use lib.Dec.{T}
 use lib.IntN.{ℤ, pos}
 use lib.ListN.{length, set, length-set}
 use lib.Seq.{getD-set-same, getD-set-other}
@@ -15,13 +13,12 @@ use Rattle.model.specs.Lists.{upFrom}
 use Rattle.model.specs.Model.{Words, scale, stateCount, togo, actionCount, action}
 use Rattle.model.specs.Questions.{bookNumber}
 use Rattle.model.specs.Recursion.{actionCost, bestOf, through, leastToGo, feasible}
-use Rattle.laws.specs.Members.{In, in-every, in-upFrom, false-T}
-use Rattle.laws.specs.Kept.{keep-in, in-keep}
+use Rattle.laws.specs.Members.{in-every}
 use Rattle.laws.specs.Best.{best-in}
 use Rattle.accepted.specs.Facts.{accepted}
 use Rattle.accepted.specs.Options.{Feasible, Alive, option-below, to-option, feasible-small}
 use Rattle.accepted.specs.Shape.{nexts-alive}
-use Rattle.sets.specs.Sets.{has, free, free-keep}
+use Rattle.sets.specs.Sets.{has, free}
 use Rattle.feasible.specs.Barred.{Leaves}
 use Rattle.costs.specs.Terms.{valueAt}
 use Rattle.costs.proofs.ToGo.{through-step, by-array, holds-more}
@@ -64,18 +61,6 @@ filled-skip ws p n v q r f never =
     row : (c : ℕ) → Feasible ws p c → (c ≡ n) ⊎ (c < n) → rowOf r p c ≡ actionCost (scale ws) (togo ws p) (valueAt v) (action ws p c)
     row c i (inl k) = absurd (never (subst (Feasible ws p) k i))
     row c i (inr l) = f .row c l i
-
--- what the set of a state says of one of its actions
-module _ (ws : Words) (p off c : ℕ) (lv : Leaves ws p off) (l : c < actionCount ws p) where
-  pub off-none : has off c ≡ true → Feasible ws p c → ⊥
-  off-none e i =
-      subst T (ap not e)
-      (keep-in (λ (x : ℕ). not (has off x)) c (upFrom 0 (actionCount ws p)) (subst (In c) (sym lv ∙ free-keep off (upFrom 0 (actionCount ws p))) i) .1)
-
-  pub on-feasible : has off c ≡ false → Feasible ws p c
-  on-feasible e =
-      subst (In c) (sym (free-keep off (upFrom 0 (actionCount ws p))) ∙ lv)
-      (in-keep (λ (x : ℕ). not (has off x)) c (upFrom 0 (actionCount ws p)) (in-upFrom 0 (actionCount ws p) c (omega arith) (omega arith)) (false-T e))
 
 -- ---- one state more
 

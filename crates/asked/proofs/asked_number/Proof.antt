@@ -1,6 +1,6 @@
 -- Each return carries the first question that is answered no.
 -- Assumes nothing.
-use mathlib.Core.Path.{_≡_, sym, _∙_}
+use mathlib.Core.Path.{sym, _∙_}
 use borrow.Author.Needs.{needs}
 use Rattle.book.proofs.Words.{no, yes′}
 use Rattle.asked.specs.Asked.{Counted, counted-says, counted-stops, asked-none, asked-passed}

@@ -5,11 +5,11 @@ use mathlib.Core.Logic.{_⊎_, inl, inr}
 use Prim.Native.Nat.{ℕ, _+_, _*_, _<_}
 use native.Mathlib.Omega.{arith}
 use lib.ListN.{getD}
-use Rattle.model.specs.Model.{Words, actionCount, action}
+use Rattle.model.specs.Model.{Words, action}
 use Rattle.model.specs.Policy.{Policy, nexts, onward}
 use Rattle.model.specs.Path.{byteAt}
 use Rattle.accepted.specs.Facts.{accepted}
-use Rattle.accepted.specs.Options.{Feasible, option-below, to-option}
+use Rattle.accepted.specs.Options.{Feasible, feasible-small}
 use Rattle.accepted.specs.Bytes.{byte-is}
 use Rattle.sets.specs.Sets.{SetOf, set-union}
 use Rattle.build.proofs.Prefix.{passed-more, passed-bare}
@@ -42,16 +42,16 @@ module _ (c : tie.Else1) where
   abbrev s : tie.Start
   s = c .before .before .before
 
-  below : getD (bs s) (s .args .s) 0 < actionCount (ws s) (s .args .s)
-  below = go (s .pre .3 .1)
+  goes-on : Feasible (ws s) (s .args .s) (getD (bs s) (s .args .s) 0)
+  goes-on = go (s .pre .3 .1)
     where
-      go : (byteAt (bs s) (s .args .s) ≡ 255) ⊎ Feasible (ws s) (s .args .s) (byteAt (bs s) (s .args .s)) → getD (bs s) (s .args .s) 0 < actionCount (ws s) (s .args .s)
+      go : (byteAt (bs s) (s .args .s) ≡ 255) ⊎ Feasible (ws s) (s .args .s) (byteAt (bs s) (s .args .s)) → Feasible (ws s) (s .args .s) (getD (bs s) (s .args .s) 0)
       go (inl e) = absurd (c .if1 .left (there s ∙ e))
-      go (inr o) = subst (λ (a : ℕ). a < actionCount (ws s) (s .args .s)) (sym (there s)) (option-below (ws s) (s .args .s) (to-option (ws s) (s .args .s) _ o))
+      go (inr o) = subst (Feasible (ws s) (s .args .s)) (sym (there s)) o
 
   small : (getD (bs s) (s .args .s) 0 < 8) × (s .args .s < 64)
   small = (
-    omega (arith, below, accepted (ws s) (s .pre .0) .counts-high (s .args .s) (s .pre .2)),
+    feasible-small (ws s) (s .pre .0) (s .args .s) (s .pre .2) goes-on,
     omega (arith, s .pre .2, accepted (ws s) (s .pre .0) .sizes .s-high),
   )
 
@@ -78,7 +78,7 @@ returns-2 c =
     let more = getD (s .args .nx .now) (8 * s .args .s + getD (bs s) (s .args .s) 0) 0 in
     let on : SetOf more (nexts (action (ws s) (s .args .s) (byteAt (bs s) (s .args .s)) .transitions)) =
     subst (λ (a : ℕ). SetOf more (nexts (action (ws s) (s .args .s) a .transitions))) (there s)
-    (s .pre .1 .at (s .args .s) (getD (bs s) (s .args .s) 0) (s .pre .2) (below e)) in
+    (s .pre .1 .at (s .args .s) (getD (bs s) (s .args .s) 0) (s .pre .2) (goes-on e)) in
     passed-more (ws s) (bs s) (s .pre .0) (s .args .s) (s .pre .2) (s .args .reach) (s .pre .4) (s .pre .3 .1) (c .union64 .result)
     (subst (λ (m : ℕ). SetOf m (onward (action (ws s)) (s .args .s) (byteAt (bs s) (s .args .s)) (h .reach))) (sym (c .union64 .ensures))
     (set-union more (s .args .reach) _ (h .reach) on (h .set-is)))

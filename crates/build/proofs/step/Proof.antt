@@ -7,7 +7,7 @@ use native.Mathlib.Omega.{arith}
 use lib.ListN.{getD}
 use Rattle.model.specs.Model.{action}
 use Rattle.accepted.specs.Facts.{accepted}
-use Rattle.accepted.specs.Options.{Option, option-below, option-small, to-option}
+use Rattle.accepted.specs.Options.{Option, option-small, to-option}
 use Rattle.sets.specs.Sets.{has}
 use Rattle.book.proofs.Words.{no, yes′}
 use Rattle.build.specs.Walk.{Stepped}
@@ -66,7 +66,7 @@ returns-2 c =
     let more = getD (s .args .nx .now) (8 * s .args .s + s .args .a) 0 in
     subst (λ (m : ℕ). Stepped (action (s .args .b .now)) (s .args .s) (s .args .a) (s .args .a) (s .args .reach) m) (sym (c .union64 .ensures))
     (step-on (s .args .b .now) (s .pre .0) (s .args .s) (s .args .reach) (s .args .a) more (here e)
-    (s .pre .1 .at (s .args .s) (s .args .a) (s .pre .2) (option-below (s .args .b .now) (s .args .s) (own e))))
+    (s .pre .1 .at (s .args .s) (s .args .a) (s .pre .2) (s .pre .3 (here e))))
 
 pub step-spec : {M : Type 1} → statement M
 step-spec =

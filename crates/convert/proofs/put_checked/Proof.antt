@@ -7,7 +7,6 @@ use native.Mathlib.Omega.{arith}
 use borrow.Author.Needs.{needs}
 use lib.IntN.{ℤ}
 use lib.ListN.{length, take, drop}
-use lib.Seq.{length-take-le}
 use Rattle.bytes_io.specs.Slices.{written}
 use Rattle.model.specs.Questions.{bookNumber}
 use Rattle.reward_table.specs.Convert.{tableBook}

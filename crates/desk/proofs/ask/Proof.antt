@@ -30,7 +30,7 @@ use denote.Memory.{mem, pointee}
 use denote.Index.{place-byte}
 use denote.Laws.{Is, shows}
 use denote.Plain.{uint-vals, uint-tells, uint-makes, uint-lawful}
-use denote.Builtin.{u32, usize, RefMutOf}
+use denote.Builtin.{u32, usize}
 use denote.Ref.{RefT, MutRef, ptr-vals, mut-tells}
 use denote.Signature.{plain}
 use denote.Steps.{only, opens, closes, owned, peeks, heard, nothing}

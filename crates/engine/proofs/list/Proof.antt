@@ -1,9 +1,7 @@
 -- The search from the first candidate, with the table and the first best actions of the book; nothing where it has no policy.
 -- Assumes nothing.
 use mathlib.Core.Path.{_≡_, sym, ap, _∙_}
-use mathlib.Core.Bool.{Bool, true, false, not}
-use mathlib.Core.List.{List}
-use Prim.Native.Nat.{ℕ}
+use mathlib.Core.Bool.{true, not}
 use native.Mathlib.Omega.{arith}
 use Rattle.model.specs.Model.{Words}
 use Rattle.model.specs.Questions.{bookNumber}
@@ -65,7 +63,10 @@ no-sets-requires : tie.Need-no-sets-requires
 no-sets-requires c κs = tt
 
 fill-sets-requires : tie.Need-fill-sets-requires
-fill-sets-requires c κs = let n = c .before .before in (indexed (n .before .before), n .no-sets .ensures)
+fill-sets-requires c κs =
+    let n = c .before .before .before .before in
+    let a = n .before .before in
+    (indexed a, barred a, n .no-sets .ensures)
 
 zero-rows-requires : tie.Need-zero-rows-requires
 zero-rows-requires c κs = tt
@@ -75,7 +76,7 @@ zeros-requires-2 c κs = tt
 
 -- the sets of next states are there
 abbrev asked : tie.After-fill-sets → tie.After-has64
-asked f = f .before .before .before .before .before
+asked f = f .before .before .before .before .before .before .before
 
 fill-table-requires : tie.Need-fill-table-requires
 fill-table-requires c κs =
@@ -106,7 +107,7 @@ abbrev made : tie.After-search-arg2 → tie.After-best-actions
 made c = c .before .before .before .before .before .before .before
 
 has-yes : (f : tie.After-fill-sets) → hasPolicy (ws (asked f)) ≡ true
-has-yes f = has-policy (asked f) ∙ ap not (f .before .before .before .before .if1 .left)
+has-yes f = has-policy (asked f) ∙ ap not (f .before .before .before .before .before .before .if1 .left)
 
 array-copy-out-least : tie.Need-array-copy-out-least
 array-copy-out-least c = search needs

@@ -1,13 +1,13 @@
 -- A turn lists the next policy, or joins one child of the listed candidate to those that wait.
 -- Assumes nothing.
 use mathlib.Core.Path.{_≡_, refl, sym, ap, _∙_, subst}
-use mathlib.Core.List.{List, [], _∷_}
+use mathlib.Core.List.{List}
 use mathlib.Core.Logic.{⊎-elim}
 use Prim.Native.Nat.{ℕ, _+_, _*_, _-_, _≤_, _<_}
 use native.Mathlib.Nat.{mul-le-mul, mul-le-mul-right}
 use native.Mathlib.Omega.{arith}
-use lib.IntN.{ℤ, pos}
-use lib.ListN.{length, set, getD, take, drop}
+use lib.IntN.{ℤ}
+use lib.ListN.{length, set, getD, take}
 use lib.Seq.{paste}
 use mir.Syntax.{w64}
 use mir.Val.{toZ, ofZ}

@@ -3,6 +3,7 @@
 use Prim.Native.Nat.{_-_, _≤_}
 use native.Mathlib.Omega.{arith}
 use Rattle.model.specs.Model.{stateCount}
+use Rattle.accepted.specs.Facts.{accepted}
 use Rattle.nexts.specs.Nexts.{NextsTo}
 use Rattle.nexts.proofs.Rows.{none-filled, state-more, all-filled}
 use borrow.Author.Needs.{needs}
@@ -10,19 +11,22 @@ use Rattle.nexts.proofs.fill_sets.Statement.{statement}
 use Rattle.nexts.proofs.fill_sets.Tie as tie
 
 abbrev Inv-loop : tie.InvT-loop
-Inv-loop b z x t₀ s p₀ t p = (p ≤ stateCount b) × NextsTo b p 0 t
+Inv-loop b z x off t₀ s p₀ t p = (p ≤ stateCount b) × NextsTo b p 0 t
 
 abbrev μ-loop : tie.MeasureT-loop
-μ-loop b z x t₀ s p₀ t p = s - p
+μ-loop b z x off t₀ s p₀ t p = s - p
 
 loop-holds : tie.Need-loop-holds Inv-loop μ-loop
-loop-holds s = (omega arith, none-filled (s .args .b .now) (s .args .t .now) (s .pre .1))
+loop-holds s = (omega arith, none-filled (s .args .b .now) (s .args .t .now) (s .pre .2))
+
+element-copy-out-mask : tie.Need-element-copy-out-mask Inv-loop μ-loop
+element-copy-out-mask c = let s = c .before .before in omega (arith, accepted (s .args .b .now) (s .pre .0 .checked .ok) .sizes .s-high)
 
 fill-state-requires : tie.Need-fill-state-requires Inv-loop μ-loop
 fill-state-requires c κs =
-    let l = c .before .before in
+    let l = c .before .before .before in
     let s = l .before in
-    (s .pre .0, omega arith, l .loop .inv .1)
+    (s .pre .0, omega arith, s .pre .1 .leaves (l .loop .p) (omega arith), l .loop .inv .1)
 
 add-p : tie.Need-add-p Inv-loop μ-loop
 add-p c = search needs
@@ -32,7 +36,7 @@ loop-less c = search needs
 
 loop-again : tie.Need-loop-again Inv-loop μ-loop
 loop-again c =
-    let l = c .before .before .before in
+    let l = c .before .before .before .before in
     let s = l .before in
     (omega arith, state-more (s .args .b .now) (l .loop .p) _ (c .fill-state .ensures))
 
@@ -49,6 +53,7 @@ fill-sets-spec =
     Inv-loop
     μ-loop
     loop-holds
+    element-copy-out-mask
     fill-state-requires
     add-p
     loop-less

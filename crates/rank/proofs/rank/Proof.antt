@@ -2,22 +2,19 @@
 -- Assumes nothing.
 use mathlib.Core.Path.{_≡_, refl, sym, ap, _∙_}
 use mathlib.Core.Bool.{Bool, true, false}
-use mathlib.Core.List.{List, [], map}
-use Prim.Native.Nat.{ℕ}
+use mathlib.Core.List.{List, map}
 use native.Mathlib.Omega.{arith}
 use borrow.Author.Needs.{needs}
-use lib.IntN.{ℤ}
 use lib.ListN.{length}
 use Rattle.model.specs.Lists.{forEach}
 use Rattle.model.specs.Model.{Words}
 use Rattle.model.specs.Policy.{Policy, hasPolicy}
 use Rattle.model.specs.Path.{policyCost}
-use Rattle.model.specs.Order.{ranking, rankingCosts}
+use Rattle.model.specs.Order.{rankingCosts}
 use Rattle.model.specs.Calls.{Room, over, roomOf, rankNumber, rankCount, rankCosts, rankPlans}
 use Rattle.accepted.specs.Empty.{none-listed, listed-none}
 use Rattle.questions.specs.Answers.{stops, leaves, gives}
 use Rattle.asked.specs.Asked.{Counted, counted-says, counted-stops}
-use Rattle.engine.specs.Engine.{Ranked}
 use Rattle.rank.specs.Short.{Fits, short-none, short-is, rank-none, rank-some}
 use Rattle.rank.proofs.rank.Statement.{statement}
 use Rattle.rank.proofs.rank.Tie as tie

@@ -1,10 +1,8 @@
 -- The first of the two slices that is too short has its number, after 28.
 -- Assumes nothing.
-use mathlib.Core.Path.{_≡_, sym, _∙_}
 use Prim.Native.Nat.{_≤_}
 use native.Mathlib.Nat.{mul-le-mul}
 use native.Mathlib.Omega.{arith}
-use borrow.Author.Needs.{needs}
 use borrow.Author.Tests.{le-leb, lt-leb}
 use Rattle.accepted.specs.Facts.{accepted}
 use Rattle.index.proofs.Lines.{headed}

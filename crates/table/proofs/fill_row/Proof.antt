@@ -11,7 +11,8 @@ use Rattle.index.specs.Index.{ActionAt}
 use Rattle.index.proofs.Lines.{entered}
 use Rattle.costs.proofs.Sums.{read64}
 use Rattle.table.specs.Table.{FilledTo}
-use Rattle.table.proofs.Rows.{filled-none, filled-more, filled-skip, off-none, on-feasible}
+use Rattle.feasible.proofs.Leaves.{off-none, on-feasible}
+use Rattle.table.proofs.Rows.{filled-none, filled-more, filled-skip}
 use borrow.Author.Needs.{needs}
 use Rattle.table.proofs.fill_row.Statement.{statement}
 use Rattle.table.proofs.fill_row.Tie as tie
