@@ -14,12 +14,6 @@ ghost use Rattle.sets.specs.Sets.{has, free};
 ghost use Rattle.feasible.specs.Barred.{Leaves, BarredOf};
 ghost use Rattle.table.specs.Table.{Chosen, better, rowOf, RowBounded, Filled, TableOf};
 
-// At 8 × p + c the cost of action c of state p with best actions ever after, if a policy can take it; at p the least cost-to-go of state p, if it has one.
-pub struct Table {
-    pub q: [i64; 512],
-    pub v: [i64; 64],
-}
-
 // Is entry i below entry k?
 fn below(q: &[i64; 512], i: usize, k: usize) -> bool
     requires { ⌜ (i < 512) × (k < 512) ⌝ }
@@ -107,8 +101,9 @@ fn entry(q: &[i64; 512], p: usize, c: usize) -> i64
     q[8 * p + c]
 }
 
-// Fills q and v with the table of a checked book, where `off` has the actions that no policy can take. No cost is multiplied or written for those, and
-// v gets no entry for a state that has no other: no sum reads one.
+// Fills q and v with the table of a checked book, where `off` has the actions that no policy can take: at 8 × p + c of q the cost of action c of state p with
+// best actions ever after, at p of v the least cost-to-go of state p. No cost is multiplied or written for those actions, and v gets no entry for a state that
+// has no other: no sum reads one.
 pub fn fill_table(
     b: &[i32],
     z: Sizes,
@@ -132,15 +127,4 @@ pub fn fill_table(
             v[p] = y;
         }
     }
-}
-
-// The table of a checked book.
-pub fn make_table(b: &[i32], z: Sizes, x: &[usize; 192], off: &[u8; 64]) -> Table
-    requires { ⌜ Indexed (now b) z (now x) × BarredOf (now b) (now off) ⌝ }
-    ensures { λ r. ⌜ TableOf (now (b .entry)) (r .q) (r .v) ⌝ }
-{
-    let mut q = zero_rows();
-    let mut v = zeros();
-    fill_table(b, z, x, off, &mut q, &mut v);
-    Table { q: q, v: v }
 }
