@@ -823,7 +823,7 @@ def broken(rng, words, faults):
             fault(rng, words, at)
         except (IndexError, ValueError):
             pass
-    return words
+    return [max(-WORST - 1, min(WORST, word)) for word in words]    # where two faults meet in a word it may leave 32 bits
 
 
 def break_mark(rng, words, at):
