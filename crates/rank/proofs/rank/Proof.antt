@@ -1,11 +1,10 @@
 -- A refusal carries its number and leaves both slices; any other call the list. A list of no policy is question 28.
 -- Assumes nothing.
-use mathlib.Core.Path.{_≡_, refl, sym, ap, _∙_}
-use mathlib.Core.Bool.{Bool, true, false}
+use mathlib.Core.Path.{_≡_, sym, ap, _∙_}
+use mathlib.Core.Bool.{true, false}
 use mathlib.Core.List.{List, map}
 use native.Mathlib.Omega.{arith}
 use borrow.Author.Needs.{needs}
-use lib.ListN.{length}
 use Rattle.model.specs.Lists.{forEach}
 use Rattle.model.specs.Model.{Words}
 use Rattle.model.specs.Policy.{Policy, hasPolicy}
@@ -14,7 +13,7 @@ use Rattle.model.specs.Order.{rankingCosts}
 use Rattle.model.specs.Calls.{Room, over, roomOf, rankNumber, rankCount, rankCosts, rankPlans}
 use Rattle.accepted.specs.Empty.{none-listed, listed-none}
 use Rattle.questions.specs.Answers.{stops, leaves, gives}
-use Rattle.asked.specs.Asked.{Counted, counted-says, counted-stops}
+use Rattle.asked.specs.Asked.{Counted, counted-says, counted-stops, list-some}
 use Rattle.rank.specs.Short.{Fits, short-none, short-is, rank-none, rank-some}
 use Rattle.rank.proofs.rank.Statement.{statement}
 use Rattle.rank.proofs.rank.Tie as tie
@@ -78,11 +77,7 @@ module _ (l : tie.After-list) where
   none z = listed-none (ws d) (counted d .ok) (s d .args .k) (counted d .low) .0 (sym (l .list .ensures .count) ∙ z)
 
   some : (l .list .result ≡ 0 → ⊥) → hasPolicy (ws d) ≡ true
-  some n = go (hasPolicy (ws d)) refl
-    where
-      go : (b : Bool) → hasPolicy (ws d) ≡ b → hasPolicy (ws d) ≡ true
-      go true h = h
-      go false h = absurd (n (l .list .ensures .count ∙ ap length (none-listed (ws d) (s d .args .k) h)))
+  some n = list-some (ws d) (s d .args .k) (counted d) (l .list .ensures .count) n .has
 
 same-length : tie.Need-same-length
 same-length c = search needs
