@@ -11,10 +11,10 @@ use Rattle.model.specs.Model.{Words, stateCount, action}
 use Rattle.model.specs.Questions.{bookNumber}
 use Rattle.model.specs.Policy.{Policy, isPolicy}
 use Rattle.model.specs.Path.{byteAt, policyCost}
-use Rattle.model.specs.Order.{comesBefore, ranking}
+use Rattle.model.specs.Order.{firstDifference, comesBefore, ranking}
 use Rattle.laws.specs.Members.{In}
 use Rattle.laws.specs.Policies.{FirstDifference}
-use Rattle.laws.specs.Difference.{firstDifference, first-agree, first-state}
+use Rattle.laws.specs.Difference.{first-agree, first-state}
 use Rattle.accepted.specs.Demands.{reached, policy-bytes, first-difference, both-reach, comes-before-is, in-list, rest-after}
 
 -- the first costs less, or as much with the lower action at the first state where they differ

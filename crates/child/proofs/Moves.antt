@@ -14,7 +14,7 @@ use Rattle.model.specs.Questions.{largestCost, bookNumber}
 use Rattle.model.specs.Path.{byteAt, taken}
 use Rattle.model.specs.Recursion.{through, feasible}
 use mathlib.Core.List.{[], _∷_}
-use Rattle.laws.specs.Int.{abs-add, abs-mul}
+use Rattle.laws.specs.Int.{abs-minus, abs-mul}
 use Rattle.laws.specs.Best.{best-cases}
 use Rattle.laws.specs.Members.{true-T, In}
 use Rattle.accepted.specs.Options.{Feasible}
@@ -34,22 +34,14 @@ use Rattle.child.proofs.Splits.{byte-feasible}
 
 -- ---- the machine's steps
 
-abs-neg : (z : ℤ) → natAbs (negℤ z) ≡ natAbs z
-abs-neg (pos Prim.Native.Nat.zero) = refl
-abs-neg (pos (Prim.Native.Nat.suc n)) = refl
-abs-neg (negsuc n) = refl
-
-abs-sub : (a b : ℤ) → natAbs (a -ℤ b) ≤ natAbs a + natAbs b
-abs-sub a b = omega (arith, abs-add a (negℤ b), abs-neg b)
-
 module _ (cost : ℤ) (w : ℕ) (new old : ℤ) (m : Movable cost w new old) where
   pub difference-fits : SFits w64 (new -ℤ old)
-  difference-fits = fits64 8000000000000000000 (new -ℤ old) (omega (arith, abs-sub new old, m .new-size, m .old-size)) (lit< tt)
+  difference-fits = fits64 8000000000000000000 (new -ℤ old) (omega (arith, abs-minus new old, m .new-size, m .old-size)) (lit< tt)
 
   pub product-fits : SFits w64 (pos w *ℤ (new -ℤ old))
   product-fits =
       fits64 8000000000000000000 (pos w *ℤ (new -ℤ old))
-      (omega (arith, abs-mul (pos w) (new -ℤ old), mul-le-mul-left w (abs-sub new old), m .new-part, m .old-part)) (lit< tt)
+      (omega (arith, abs-mul (pos w) (new -ℤ old), mul-le-mul-left w (abs-minus new old), m .new-part, m .old-part)) (lit< tt)
 
   pub result-fits : SFits w64 (cost +ℤ pos w *ℤ (new -ℤ old))
   result-fits = fits64 4000000000000000000 (cost +ℤ pos w *ℤ (new -ℤ old)) (m .result) (lit< tt)

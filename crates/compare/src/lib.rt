@@ -2,7 +2,7 @@
 ghost use mathlib.Core.Path.{_≡_};
 ghost use Prim.Native.Nat.{_+_, _≤_};
 ghost use lib.ListN.{length, take, drop};
-ghost use Rattle.laws.specs.Difference.{firstDifference};
+ghost use Rattle.model.specs.Order.{firstDifference};
 
 // The first place where the n bytes of a from index `at` on differ from the first n of b, or n. For bytes of two policies it is a state.
 pub fn first_difference(a: &[u8], at: usize, b: &[u8], n: usize) -> usize

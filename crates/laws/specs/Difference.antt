@@ -16,16 +16,10 @@ use Rattle.model.specs.Lists.{same}
 use Rattle.model.specs.Model.{Action}
 use Rattle.model.specs.Policy.{Policy}
 use Rattle.model.specs.Path.{byteAt}
-use Rattle.model.specs.Order.{lower}
+use Rattle.model.specs.Order.{lower, firstDifference}
 use Rattle.laws.specs.Members.{T-true, true-T}
 use Rattle.laws.specs.Policies.{FirstDifference}
 use Rattle.laws.specs.Order.{Low, lower-is}
-
--- how many bytes from the front agree: the first place where the lists differ, or the length of the shorter
-abbrev pub firstDifference : List ℕ → List ℕ → ℕ
-firstDifference [] cs = 0
-firstDifference (b ∷ bs) [] = 0
-firstDifference (b ∷ bs) (c ∷ cs) = cond (eqb b c) (suc (firstDifference bs cs)) 0
 
 -- one byte more, by whether it agrees
 pub first-equal : (b c : ℕ) (bs cs : List ℕ) → b ≡ c → firstDifference (b ∷ bs) (c ∷ cs) ≡ suc (firstDifference bs cs)

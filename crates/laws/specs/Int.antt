@@ -11,7 +11,7 @@ use native.Mathlib.Decide.{decLt}
 use native.Mathlib.Omega.{arith}
 use lib.Arith.{le→nltb}
 use lib.Dec.{T, ltb, ltb→lt, lt→ltb, nleb→lt, le→leb, leb→le}
-use lib.IntN.{ℤ, pos, negsuc, natAbs, negℤ, subℕ, _+ℤ_, _*ℤ_}
+use lib.IntN.{ℤ, pos, negsuc, natAbs, negℤ, subℕ, _+ℤ_, _-ℤ_, _*ℤ_}
 use lib.Signed.{_≤ℤ_, _<ℤ_, leZ, ltZ}
 
 -- ---- differences
@@ -239,6 +239,13 @@ abs-add (pos a) (pos b) = le-refl (a + b)
 abs-add (pos a) (negsuc b) = abs-sub a (suc b)
 abs-add (negsuc a) (pos b) = omega (arith, abs-sub b (suc a))
 abs-add (negsuc a) (negsuc b) = omega arith
+
+pub abs-minus : (a b : ℤ) → natAbs (a -ℤ b) ≤ natAbs a + natAbs b
+abs-minus a b = omega (arith, abs-add a (negℤ b), size b)
+  where
+    size : (z : ℤ) → natAbs (negℤ z) ≡ natAbs z
+    size (pos n) = abs-neg n
+    size (negsuc n) = refl
 
 pub abs-mul : (a b : ℤ) → natAbs (a *ℤ b) ≡ natAbs a * natAbs b
 abs-mul (pos a) (pos b) = refl

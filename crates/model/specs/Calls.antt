@@ -13,6 +13,7 @@ use Rattle.model.specs.Questions.{Question, firstNo, andThen, bookNumber
 use Rattle.model.specs.Policy.{Policy, isPolicy}
 use Rattle.model.specs.Path.{policyCost}
 use Rattle.model.specs.Order.{ranking, rankingCosts}
+use Rattle.model.specs.Standing.{answerNumber, answerValue, standing}
 use Rattle.model.specs.Record.{recordBytes, carriedCount, carriedBook, planStart, planQuestions, askedNumber, acceptNumber}
 
 -- what goes with the number 0, and what with any other
@@ -107,6 +108,18 @@ acceptCount bs = ifAccepted (acceptNumber bs) (carriedCount bs) 0
 unfoldable pub shown : List ℕ → ℕ → List ℕ
 shown bs j =
     cond (ltb j (acceptCount bs)) (take (acceptStates bs) (drop (planStart bs (acceptStates bs) (acceptCount bs) j) bs)) []
+
+-- ---- find, request 2.8: "handed a book and K; it says one of"; "Other slices get 17, asked after 14 and 28."
+
+unfoldable pub findNumber : Words → ℕ → Policy → ℕ
+findNumber ws k bs = andThen (askedNumber ws k) (firstNo (policyQuestions ws) bs)
+
+-- 0 where it is refused, else which of the three answers; and its rank, amount or post
+unfoldable pub findAnswer : Words → ℕ → Policy → ℕ
+findAnswer ws k bs = ifAccepted (findNumber ws k bs) (answerNumber (standing ws k bs)) 0
+
+unfoldable pub findValue : Words → ℕ → Policy → ℤ
+findValue ws k bs = ifAccepted (findNumber ws k bs) (answerValue (standing ws k bs)) (pos 0)
 
 -- ---- power: "D^e for every D from 1 to 100 and e from 0 to 8"; "a lookup for any other D or e gives 0"
 

@@ -8,4 +8,5 @@ pub mod Order
 pub mod Bytes
 pub mod Record
 pub mod Page
+pub mod Standing
 pub mod Calls

@@ -1,7 +1,7 @@
 -- The order of the policies, and the list.
 -- Assumes nothing.
-use Prim.Native.Nat.{ℕ}
-use mathlib.Core.Bool.{Bool, false, not, _&&_, _||_}
+use Prim.Native.Nat.{ℕ, suc}
+use mathlib.Core.Bool.{Bool, false, not, _&&_, _||_, cond}
 use mathlib.Core.List.{List, [], _∷_, map}
 use lib.IntN.{ℤ}
 use lib.Signed.{ltZ}
@@ -17,6 +17,12 @@ abbrev pub lower : Policy → Policy → Bool
 lower [] qs = false
 lower (p ∷ ps) [] = false
 lower (p ∷ ps) (q ∷ qs) = ltb p q || (eqb p q && lower ps qs)
+
+-- "the lowest-numbered post where they differ": how many bytes from the front agree, which is the length of the shorter where all of them do
+abbrev pub firstDifference : Policy → Policy → ℕ
+firstDifference [] qs = 0
+firstDifference (p ∷ ps) [] = 0
+firstDifference (p ∷ ps) (q ∷ qs) = cond (eqb p q) (suc (firstDifference ps qs)) 0
 
 -- "Plan P comes before Q if its cost is lower, or equal with the lower choice at the lowest-numbered post where they differ."
 abbrev pub before : (Policy → ℤ) → Policy → Policy → Bool

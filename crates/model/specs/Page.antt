@@ -5,15 +5,17 @@ use mathlib.Core.Bool.{Bool, _&&_, cond}
 use mathlib.Core.List.{List, [], _∷_, _++_}
 use lib.IntN.{ℤ, pos, negsuc}
 use lib.Dec.{eqb, leb, ltb}
-use lib.ListN.{length, take, drop}
+use lib.ListN.{length, take, drop, getD}
 use Rattle.model.specs.Lists.{forEach}
 use Rattle.model.specs.Bytes.{fromBytes, wordsOf}
 use Rattle.model.specs.Model.{Words, scale, horizon}
+use Rattle.model.specs.Questions.{firstNo, andThen}
 use Rattle.model.specs.Policy.{Policy}
 use Rattle.model.specs.Path.{policyCost}
 use Rattle.model.specs.Order.{ranking}
 use Rattle.model.specs.Record.{recordBytes, carriedK, carriedBook, askedNumber, acceptNumber}
-use Rattle.model.specs.Calls.{over}
+use Rattle.model.specs.Standing.{Answer, isRank, costsMore, takesHigher, answerValue, standing}
+use Rattle.model.specs.Calls.{over, policyQuestions}
 
 -- a number in base ten, of at most f digits
 abbrev pub digits : ℕ → ℕ → List ℕ
@@ -94,11 +96,41 @@ filed input = orRefused (inputNumber input) (recordBytes (inputBook input) (inpu
 unfoldable pub recordPage : List ℕ → List ℕ
 recordPage bs = orRefused (acceptNumber bs) (listPage (carriedBook bs) (carriedK bs))
 
+-- ---- request 2.8: the length of a plan in one byte, the plan, then K and a book as above
+
+unfoldable pub inputPlan : List ℕ → Policy
+inputPlan input = take (getD input 0 0) (drop 1 input)
+
+unfoldable pub afterPlan : List ℕ → List ℕ
+afterPlan input = drop (1 + getD input 0 0) input
+
+-- 1 where no K and no whole words follow the plan, else 1 to 14 and 28, then 17
+unfoldable pub planNumber : List ℕ → ℕ
+planNumber input = andThen (inputNumber (afterPlan input)) (firstNo (policyQuestions (inputBook (afterPlan input))) (inputPlan input))
+
+-- `rank `, `more ` and `post `
+abbrev pub answerWord : Answer → List ℕ
+answerWord (isRank j) = 114 ∷ 97 ∷ 110 ∷ 107 ∷ 32 ∷ []
+answerWord (costsMore z) = 109 ∷ 111 ∷ 114 ∷ 101 ∷ 32 ∷ []
+answerWord (takesHigher p) = 112 ∷ 111 ∷ 115 ∷ 116 ∷ 32 ∷ []
+
+-- then the rank, the amount or the post
+unfoldable pub answerLine : Answer → List ℕ
+answerLine a = answerWord a ++ signedDecimal (answerValue a) ++ (10 ∷ [])
+
+-- a plan, K and a book in, one line out
+unfoldable pub planLine : List ℕ → List ℕ
+planLine input = orRefused (planNumber input) (answerLine (standing (inputBook (afterPlan input)) (inputCount (afterPlan input)) (inputPlan input)))
+
 -- ---- a text at the front of a lent slice that has `most` places or more; a shorter one gets nothing
 
 -- more than any page has
 abbrev pub mostPage : ℕ
 mostPage = 90112
+
+-- more than any one line has that says a number
+abbrev pub mostLine : ℕ
+mostLine = 40
 
 -- as many as the longest record has, "at most 21,308"
 abbrev pub mostRecord : ℕ

@@ -6,22 +6,20 @@ use mathlib.Core.Option.{some}
 use Prim.Native.Nat.{ℕ, zero, suc, _+_, _*_, _≤_, _<_}
 use native.Mathlib.Nat.{zero-add}
 use native.Mathlib.Omega.{arith}
-use lib.IntN.{ℤ, pos}
-use lib.ListN.{length, take, drop, getD, getElem?, take-append-drop}
-use lib.Seq.{take-all, getD-take, length-take-le}
-use Rattle.model.specs.Model.{Words, stateCount}
+use lib.IntN.{pos}
+use lib.ListN.{length, take, drop, getD, getElem?}
+use lib.Seq.{take-all, length-take-le}
+use Rattle.model.specs.Model.{Words}
 use Rattle.model.specs.Questions.{bookNumber}
 use Rattle.model.specs.Policy.{Policy}
-use Rattle.model.specs.Path.{policyCost}
-use Rattle.model.specs.Order.{ranking, rankingCosts}
+use Rattle.model.specs.Order.{ranking}
 use Rattle.model.specs.Page.{decimal, policyLine, policyLines}
 use Rattle.laws.specs.Entries.{some-at}
 use Rattle.laws.specs.Sorting.{at-in}
-use Rattle.accepted.specs.Demands.{costs-are}
 use Rattle.text.specs.Text.{lineText}
 use Rattle.record.specs.declared.Listing.{Listing}
 use Rattle.record.specs.Listed.{Listed}
-use Rattle.record.specs.Demand3.{wide, part-at}
+use Rattle.record.specs.Entries.{entry-cost, entry-bytes}
 
 -- the title, of any three numbers
 abbrev pub titleText : ℕ → ℕ → ℕ → List ℕ
@@ -37,11 +35,6 @@ arrayLines l (suc n) = arrayLines l n ++ lineText (suc n) (getD (l .costs) n (po
 -- ---- entries of lists
 
 module _ {A : Type 0} where
-  getD-at : (xs : List A) (j : ℕ) (d x : A) → getElem? xs j ≡ some x → getD xs j d ≡ x
-  getD-at [] j d x e = absurd (at-in [] j x e)
-  getD-at (y ∷ ys) zero d x e = cc
-  getD-at (y ∷ ys) (suc j) d x e = getD-at ys j d x e
-
   take-snoc : (xs : List A) (j : ℕ) (x : A) → getElem? xs j ≡ some x → take (suc j) xs ≡ take j xs ++ (x ∷ [])
   take-snoc [] j x e = absurd (at-in [] j x e)
   take-snoc (y ∷ ys) zero x e = let s : y ≡ x = cc in rw s
@@ -62,17 +55,7 @@ module _ (ws : Words) (ok : bookNumber ws ≡ 0) (k : ℕ) (l : Listing) (h : Li
   one-line : (j : ℕ) (p : Policy) → j < l .n → getElem? (ranking ws k) j ≡ some p
       → lineText (suc j) (getD (l .costs) j (pos 0)) (take (l .s) (drop (j * l .s) (l .plans))) ≡ policyLine ws (suc j) p
   unfolding policyLine
-  one-line j p i e = ap₂ (lineText (suc j)) cost bytes
-    where
-      cost : getD (l .costs) j (pos 0) ≡ policyCost ws p
-      cost = sym (getD-take (l .n) (l .costs) j (pos 0) i) ∙ ap (λ (zs : List ℤ). getD zs j (pos 0)) (h .costs-are)
-          ∙ getD-at (rankingCosts ws k) j (pos 0) (policyCost ws p) (costs-are ws ok k j p e)
-
-      bytes : take (l .s) (drop (j * l .s) (l .plans)) ≡ p
-      bytes =
-          ap (λ (bs : List ℕ). take (l .s) (drop (j * l .s) bs))
-          (sym (take-append-drop (l .n * l .s) (l .plans)) ∙ ap (λ (bs : List ℕ). bs ++ drop (l .n * l .s) (l .plans)) (h .plans-are))
-          ∙ rw (h .states) (part-at (λ (q : Policy). q) (stateCount ws) j (ranking ws k) p (drop (l .n * stateCount ws) (l .plans)) (wide ws ok k) e)
+  one-line j p i e = ap₂ (lineText (suc j)) (entry-cost ws ok k l h j p e i) (entry-bytes ws ok k l h j p e)
 
   up-to : (j : ℕ) → j ≤ l .n → arrayLines l j ≡ policyLines ws 1 (take j (ranking ws k))
   unfolding policyLines

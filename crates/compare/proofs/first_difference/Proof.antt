@@ -9,7 +9,8 @@ use native.Mathlib.Omega.{arith}
 use borrow.Author.Needs.{needs}
 use lib.ListN.{length, getD, take, drop, length-drop, drop-of-length-le}
 use lib.Seq.{length-take-le, getD-take, getD-drop}
-use Rattle.laws.specs.Difference.{firstDifference, drop-equal, drop-differ}
+use Rattle.model.specs.Order.{firstDifference}
+use Rattle.laws.specs.Difference.{drop-equal, drop-differ}
 use Rattle.compare.proofs.first_difference.Statement.{statement}
 use Rattle.compare.proofs.first_difference.Tie as tie
 

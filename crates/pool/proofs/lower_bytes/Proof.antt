@@ -9,8 +9,8 @@ use borrow.Author.Needs.{needs}
 use lib.Dec.{ltb}
 use lib.ListN.{length, getD, take}
 use lib.Seq.{length-take-le, getD-take}
-use Rattle.model.specs.Order.{lower}
-use Rattle.laws.specs.Difference.{firstDifference, first-swap, lower-first, lower-end}
+use Rattle.model.specs.Order.{lower, firstDifference}
+use Rattle.laws.specs.Difference.{first-swap, lower-first, lower-end}
 use Rattle.pool.specs.Entries.{row}
 use Rattle.pool.proofs.Rows.{row-long, row-at}
 use Rattle.pool.proofs.lower_bytes.Statement.{statement}

@@ -1,0 +1,68 @@
+-- The difference of two costs fits 64 bits, and so does a state.
+-- Assumes nothing.
+use borrow.Author.Needs.{needs}
+use mathlib.Core.Path.{_≡_, refl, sym, ap, _∙_}
+use mathlib.Core.Bool.{true, false}
+use native.Mathlib.Omega.{arith}
+use lib.Dec.{lit<}
+use lib.IntN.{ℤ, pos, _-ℤ_}
+use lib.ListN.{length, take, drop}
+use lib.Seq.{take-all}
+use lib.Signed.{ltZ}
+use mir.Syntax.{w64}
+use mir.Val.{SFits, toZ}
+use mir.Facts.{toZ-ofZ, toZ-pos}
+use Rattle.model.specs.Order.{firstDifference}
+use Rattle.model.specs.Standing.{Answer, costsMore, takesHigher, besideLast, answerNumber, answerValue}
+use Rattle.book.proofs.Words.{fits64}
+use Rattle.laws.specs.Int.{abs-minus}
+use Rattle.find.proofs.beside_last.Statement.{statement}
+use Rattle.find.proofs.beside_last.Tie as tie
+
+module _ (c : tie.Start) where
+  difference : SFits w64 (c .args .cost -ℤ c .args .last)
+  difference =
+      fits64 8000000000000000000 (c .args .cost -ℤ c .args .last)
+      (omega (arith, abs-minus (c .args .cost) (c .args .last), c .pre .1, c .pre .2)) (lit< tt)
+
+  -- the two figures by whether the plan costs more
+  abbrev says : Answer
+  says =
+      besideLast (take (length (c .args .plan .now)) (drop (c .args .at) (c .args .plans .now))) (c .args .last) (c .args .plan .now) (c .args .cost)
+
+  more : ltZ (c .args .last) (c .args .cost) ≡ true → says ≡ costsMore (c .args .cost -ℤ c .args .last)
+  more e = rw e
+
+  higher : ltZ (c .args .last) (c .args .cost) ≡ false
+      → says ≡ takesHigher (firstDifference (take (length (c .args .plan .now)) (drop (c .args .at) (c .args .plans .now))) (c .args .plan .now))
+  higher e = rw e
+
+sub-t8 : tie.Need-sub-t8
+sub-t8 c =
+    let s = c .before .before .before in
+    simp (toZ-ofZ (s .fits .cost), toZ-ofZ (s .fits .last)) (difference s)
+
+returns : tie.Need-returns
+returns c =
+    let s = c .before .before .before in
+    let e = more s (rw (toZ-ofZ (s .fits .cost), toZ-ofZ (s .fits .last)) at (c .if1 .taken)) in
+    (refl, sym (ap answerNumber e), simp (toZ-ofZ (s .fits .cost), toZ-ofZ (s .fits .last), toZ-ofZ (difference s)) (sym (ap answerValue e)))
+
+first-difference-requires : tie.Need-first-difference-requires
+first-difference-requires c κs = search needs
+
+cast-t10 : tie.Need-cast-t10
+cast-t10 c = search needs
+
+returns-2 : tie.Need-returns-2
+returns-2 c =
+    let s = c .before .before .before .before in
+    let e = higher s (rw (toZ-ofZ (s .fits .cost), toZ-ofZ (s .fits .last)) at (c .before .if1 .left)) in
+    let front = take (length (s .args .plan .now)) (drop (s .args .at) (s .args .plans .now)) in
+    let whole = take-all (length (s .args .plan .now)) (s .args .plan .now) (omega arith) in
+    let p = c .first-difference .result in
+    let is : toZ w64 p ≡ pos p = toZ-pos w64 {n = p} (search needs) in
+    (refl, sym (ap answerNumber e), is ∙ ap pos (c .first-difference .ensures .0 ∙ ap (firstDifference front) whole) ∙ sym (ap answerValue e))
+
+pub beside-last-spec : {M : Type 1} → statement M
+beside-last-spec = tie.close (tie.spec sub-t8 returns first-difference-requires cast-t10 returns-2)
