@@ -6,9 +6,11 @@
 
 Each rule of document 01 has its cases here: the tours, each question from both sides, which of two comes first, rooms and counts at their limits,
 ties, records with each byte changed, pages, the largest book. After them stand those of document 02: stops, six next posts, the desk, planners' tables, closed
-choices, depots. Breadth is fresh.py's; a few of its kinds are stored too. New cases are added at the end, so that the others keep their numbers.
+choices, depots, where a plan stands. Breadth is fresh.py's; a few of its kinds are stored too. New cases are added at the end, so that the others keep their
+numbers.
 """
 
+import itertools
 import os
 import random
 import sys
@@ -238,13 +240,18 @@ def order_cases():
 COUNTS = (0, 1, 64, 65, 66, 255, 256, 2 ** 24 + 3, 2 ** 31, 2 ** 32 - 1, 2 ** 32, 2 ** 32 + 3, 2 ** 63, 2 ** 64 - 1)
 
 
-def not_plans(words):
+def bent_slices(words):
+    """The first two plans cut off, made longer and with each byte changed: few are plans."""
     for _, plan in ref.ranking(words, 2):
-        for other in [[], plan[:-1], plan + (0,), plan + (255,)]:
-            yield from value(other)
+        yield from ((), plan[:-1], plan + (0,), plan + (255,))
         for i in range(len(plan)):
             for x in sorted({0, 1, 2, 8, 254, 255} - {plan[i]}):
-                yield from value(plan[:i] + (x,) + plan[i + 1:])
+                yield plan[:i] + (x,) + plan[i + 1:]
+
+
+def not_plans(words):
+    for slice_ in bent_slices(words):
+        yield from value(slice_)
 
 
 def lent_cases():
@@ -429,12 +436,15 @@ def stop_order_cases():
     yield 'a sum of D + 1 before a next post that is none: question 11', list(kinds.carried(words, 65, 0, b'1'))
 
 
+# With D 2 each costs 10: 4 × 2 + 2, 5 × 2, 3 × 2 + 2 × 2.
+TIED_WAYS = (4, [(0, 1)]), (5, []), (3, [(0, 2)])
+
+
 def stop_list_cases():
     """Ties between plans that stop and plans that go on; what is no plan; records."""
     yield 'D 1, a sure stop that ties', thorough(one_post(1, (5, []), (3, [(0, 1)])), 1, 2)
-    ways = [(4, [(0, 1)]), (5, []), (3, [(0, 2)])]    # each costs 10: 4 × 2 + 2, 5 × 2, 3 × 2 + 2 × 2
-    yield 'a stop, a sure stop and a full plan that tie', thorough(one_post(2, *ways), 1, 3)
-    yield 'the same in another order', thorough(one_post(2, *reversed(ways)), 2)
+    yield 'a stop, a sure stop and a full plan that tie', thorough(one_post(2, *TIED_WAYS), 1, 3)
+    yield 'the same in another order', thorough(one_post(2, *reversed(TIED_WAYS)), 2)
     yield 'all plans cost 0, and many stop', thorough(row_of_posts(2, *[[(0, 1), (0, 0), (0, 2)]] * 3), 64)
     for name, words in (('a book with stops', STOPS), ('a book with a sure stop at post 0', one_post(1, (5, []), (4, [(0, 1)])))):
         yield 'no plans of ' + name, book(words) + list(not_plans(words))
@@ -923,6 +933,9 @@ DEPOTS = books.build(4, [1, 2, 3], [
     [(4, []), (1, []), (4, [])], [(6, [])], [(3, []), (-2, [])]])
 
 
+TIED_DEPOTS = books.build(2, [1, 2], [[(4, [(0, 2)]), (4, [(0, 1), (1, 1)]), (3, [(1, 2)])], [(1, []), (2, []), (1, [])], [(2, []), (1, [])]])
+
+
 def one_line(*costs, cost=5):
     """H = 1: post 0 leads to post 1, whose depots have these costs."""
     return books.build(1, [1, 1], [[(cost, [(0, 1)])], [(x, []) for x in costs]])
@@ -972,8 +985,7 @@ def depot_list_cases():
     yield '64 plans that differ in depots only', thorough(row_of_depots(2, [8, 8]), 63, 64)
     yield '512 plans that differ in depots only', thorough(row_of_depots(3, [8, 8, 8], 7), 64)
     yield '512 plans with depots that tie', thorough(books.with_cost(row_of_depots(3, [8, 8, 8]), [(post, c) for post in (1, 2, 3) for c in range(8)], 6), 64)
-    yield 'depots that tie with choices before stage H', thorough(books.build(2, [1, 2], [[(4, [(0, 2)]), (4, [(0, 1), (1, 1)]), (3, [(1, 2)])],
-                                                                                       [(1, []), (2, []), (1, [])], [(2, []), (1, [])]]), 64)
+    yield 'depots that tie with choices before stage H', thorough(TIED_DEPOTS, 64)
     yield 'sixteen posts with eight depots', thorough(row_of_depots(1, [8] * 16), 1, 64)
     yield 'two of sixteen posts with eight depots', thorough(row_of_depots(2, [8] * 16, 9), 64)
     yield 'depots at a post that no plan reaches', thorough(row_of_depots(1, [1, 8]), 64)
@@ -1047,6 +1059,126 @@ def largest_with_depots_case():
         return Case('the largest book with depots', thorough(words, 1, 64), True)
 
 
+# ---- where a plan stands (2.8 of document 02)
+
+def finds(words, counts, slices):
+    """Each slice in the list of each K. The slices lie one after the other."""
+    ends = [*itertools.accumulate(map(len, slices), initial=OUT)]
+    return book(words) + [put(b''.join(map(bytes, slices)))] + [Command('find', *part, k=k) for k in counts for part in zip(ends, ends[1:])]
+
+
+def plans_of(words):
+    return [plan for _, plan in ref.in_order(tuple(words))]
+
+
+def finds_without_plan(words):
+    """What would be the first plans if no choice were closed, and slices that would be none then either."""
+    plans = plans_of(books.opened(words))
+    return finds(words, (0, 1, 3, 64, 65), [(), (255,) * len(plans[0]), plans[0] + (255,), *plans[:3]])
+
+
+def every_find(words):
+    """Every plan with each K up to two more than the book has plans."""
+    plans = plans_of(words)
+    return finds(words, range(1, len(plans) + 3), plans) if plans else finds_without_plan(words)
+
+
+def tour_finds():
+    """The books of the tours, with their K or 3: every plan, and the slice of tour 6."""
+    for tour, call, arguments, _ in tours.TABLE:
+        if call in ('rank', 'check'):
+            words, k = (*arguments, 3)[:2]
+            yield 'find: tour %d' % tour, finds(words, (k,), [(0, 0, 0, 0), *([] if ref.check(words) else plans_of(words))])
+
+
+def find_limits(rows):
+    """On both sides of the questions of a book and of K. Of a book that is accepted the first plans too."""
+    for question, what, words in rows:
+        listed = [] if ref.check(words) else plans_of(words)[:3]
+        yield 'find, question %d: %s' % (question, what), finds(words, (2, 65), [(), (0,) * posts_of(words), *listed])
+
+
+def find_limit_rows():
+    at, deep = books.Places(SMALL), books.Places(DEEP)
+    yield from (*size_limits(at), *line_limits(at), *word_limits(at, deep))
+    yield from (row for row in row_limits() if row[1].endswith('of 4'))
+    yield from (row for row in closed_costs() if row[0] == 10)
+    yield from (row for row in depot_limits() if row[0] == 8)
+
+
+def find_order_cases():
+    """Of the questions that are answered no the first counts: one of the book, 14, 28, and last 17."""
+    plan = plans_of(DEEP)[0]
+    for name, words in (('a plan', DEEP), ('no plan', books.close(DEEP, [(0, 0), (0, 1)]))):
+        at = books.Places(words)
+        others = [with_words(words, fault(at)) for fault in FAULTS.values()] + [words[:2], words[:3 + at.stages], words + [0]]
+        assert {ref.check(other) for other in others} == {*range(1, 14)}
+        for other in others:
+            yield 'find: a book with %s, and question %d' % (name, ref.check(other)), finds(other, (0, 1, 65), [plan, ()])
+        yield 'find: a book with %s, each K' % name, finds(words, COUNTS, [plan, plan[:-1], ()])
+
+
+def find_books():
+    """(what, book): small ones, each plan of which is found with each K."""
+    yield from (('A', tours.book_a()), ('A, closing 8', tours.book_a(closing=8)), ('A, cost -10', tours.book_a(cost=-10)), ('A, D 3', tours.book_a(scale=3)),
+                ('C', tours.book_c()), ('C, D 2', with_words(tours.book_c(), (0, 2))), ('tour 10', tours.book_of_tour_10(44)))
+    yield from (('a book with stops', STOPS), ('a book with closed choices', SHUT), ('a book with depots', DEPOTS))
+    yield 'a book with posts that some or all plans do not reach', far_posts()
+    yield from (('%d plans that tie' % (n * n), chain(n, n)) for n in (2, 3))
+    yield 'four costs, each of several plans', chain(4, 4, cost=lambda choice: choice // 2)
+    yield 'a stop, a sure stop and a full plan that tie', one_post(2, *TIED_WAYS)
+    yield 'a full plan, a sure stop and a stop that tie', one_post(2, *reversed(TIED_WAYS))
+    yield 'plans that all cost 0, many of them with stops', row_of_posts(2, *[[(0, 1), (0, 0), (0, 2)]] * 2)
+    yield 'eight depots', one_line(3, 9, 1, 4, 1, 5, 9, 2)
+    yield 'eight depots that tie', one_line(*[7] * 8)
+    yield 'nine plans that differ in depots only', row_of_depots(2, [3, 3])
+    yield 'depots that tie with choices before stage H', TIED_DEPOTS
+    for name, words in (('', SMALL), (', in a book with stops', STOPS), (', in a book with depots', DEPOTS)):
+        for post, c in books.every_choice(ref.Book(words)):
+            yield 'choice %d of post %d closed%s' % (c, post, name), books.close(words, [(post, c)])
+    yield from (('every choice of stage %d of 2 closed' % n, books.close(STOPS, of_stage(STOPS, n))) for n in range(3))
+
+
+def last_of_64():
+    """64 posts of which a plan reaches the last one of each stage; plans differ at post 63 alone, in depots that tie."""
+    sizes = [1, 15, 16, 16, 16]
+    rows = [[(1, [(sizes[n + 1] - 1, 3)])] for n in range(4) for _ in range(sizes[n])] + [[(1, [])]] * 15 + [[(2, [])] * 8]
+    return books.build(3, sizes, rows)
+
+
+def widest():
+    """D = 100, H = 7: costs from -4 × 10^18 to 4 × 10^18, as far apart as any."""
+    return books.build(100, [1] * 8, [[(-5000, [(0, 100)]), (5000, [(0, 100)])]] * 7 + [[(-5000, []), (5000, [])]])
+
+
+def find_cases():
+    for what, words in find_books():
+        yield 'find: ' + what, every_find(words)
+    yield 'find: costs at both ends', finds(both_ends(), (1, 6, 7, 26, 27, 28, 64), plans_of(both_ends()))
+    yield 'find: 64 plans that tie', finds(chain(8, 8), (1, 8, 9, 63, 64), plans_of(chain(8, 8)))
+    for name, words in (('that tie', chain(8, 8, 8)), ('of few costs', chain(8, 8, 8, cost=lambda choice: choice % 2))):
+        plans = plans_of(words)
+        yield 'find: 512 plans ' + name, finds(words, (1, 63, 64), plans[60:68] + plans[::33] + plans[-1:])
+    yield 'find: ties at post 63', every_find(last_of_64())
+    yield 'find: amounts up to the largest', finds(widest(), (1, 64), plans_of(widest())[::15])
+    for name, words in (('A', tours.book_a()), ('C', tours.book_c()), ('a book with stops', STOPS), ('a book with closed choices', SHUT),
+                        ('a book with depots', DEPOTS)):
+        yield 'find: no plans of ' + name, finds(words, (1, 64), [*bent_slices(words)])
+    yield 'find: slices with closed choices', finds(SHUT, (1, 3, 64), [*ref.plans(ref.Book(books.opened(SHUT)))])
+
+
+def largest_find_cases():
+    """The largest book with depots, and the same with one cost for all choices, so that all plans tie."""
+    any_cost = largest_with_depots()
+    one_cost = books.with_cost(any_cost, books.every_choice(ref.Book(any_cost)), 7)
+    for name, words in (('the largest book', any_cost), ('the largest book, all plans tie', one_cost)):
+        rng = random.Random(name)
+        with search.instead_of_enumeration():
+            listed = [plan for _, plan in ref.ranking(words, 64)]
+        slices = [listed[j] for j in (0, 1, 31, 32, 62, 63)] + [books.random_plan(rng, ref.Book(words)) for _ in range(3)] + [listed[63][:-1]]
+        yield Case('find: ' + name, finds(words, (1, 32, 63, 64), slices), True)
+
+
 # ---- all of them
 
 DRAWN = {'small': 6, 'deep': 2, 'wide': 1, 'ties': 5, 'few': 3, 'unreached': 3, 'crossing': 6, 'many': 1, 'edge': 2, 'full': 1, 'faults': 6, 'noise': 8}
@@ -1059,6 +1191,7 @@ DRAWN_CLOSED = {'closed': 6, 'closed_last': 3, 'closed_stage': 3, 'all_closed': 
                 'closed_wide': 2, 'closed_deep': 3, 'closed_edge': 5, 'closed, faults': 12, 'desk, closed': 4}
 DRAWN_DEPOTS = {'depots': 6, 'depots_eight': 3, 'depots_alone': 3, 'depots_and_ties': 5, 'depots_closed': 5, 'depots_unreached': 2, 'depots_wide': 2,
                 'depots_edge': 5, 'nine': 5, 'depots, faults': 10, 'desk, depots': 3}
+DRAWN_FIND = {'find': 40, 'find, faults': 6, 'find, vast': 1}
 
 
 def made(*groups):
@@ -1087,6 +1220,9 @@ def stored():
     cases += made(limits(depot_limits()), depot_list_cases(), depot_closed_cases(), depot_value_cases(), depot_order_cases(), depot_record_cases())
     cases += [largest_with_depots_case()]
     cases += drawn(DRAWN_DEPOTS, sum(sum(counts.values()) for counts in (DRAWN, DRAWN_STOPS, DRAWN_ROWS, DRAWN_DESKS, DRAWN_TABLES, DRAWN_CLOSED)))
+    cases += made(tour_finds(), find_limits(find_limit_rows()), find_order_cases(), find_cases()) + [*largest_find_cases()]
+    before = DRAWN, DRAWN_STOPS, DRAWN_ROWS, DRAWN_DESKS, DRAWN_TABLES, DRAWN_CLOSED, DRAWN_DEPOTS
+    cases += drawn(DRAWN_FIND, sum(sum(counts.values()) for counts in before))
     return [case._replace(title='%d %s' % (n, case.title)) for n, case in enumerate(cases)]
 
 

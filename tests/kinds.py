@@ -10,7 +10,7 @@ import reference as ref
 import rewards
 import search
 import tables
-from machine import BOOK, OUT, Case, Command, accept, ask, book_bytes, cancel, commit, convert, fill, head, opening, page, put, rank, show, value, write
+from machine import BOOK, OUT, Case, Command, accept, ask, book_bytes, cancel, commit, convert, fill, find, head, opening, page, put, rank, show, value, write
 
 MOST_INPUT = machine.PLACES - BOOK + 4
 MOST_ROOM = (BOOK - OUT) // 4    # words before the place of books
@@ -115,9 +115,13 @@ def without_plan(rng, words):
     yield from (some_rank(rng, most, posts), write(most, rng.choice([0, 11, 12 + 4 * len(words), 12 + 4 * len(words) + most * (8 + posts)])))
 
 
+def vast_book(rng):
+    return rng.choice([books.vast, books.stops_vast, books.closed_vast, books.depots_vast])(rng)
+
+
 def vast(rng):
     """All calls on a book that has too many plans to enumerate."""
-    words = rng.choice([books.vast, books.stops_vast, books.closed_vast, books.depots_vast])(rng)
+    words = vast_book(rng)
     most = rng.choice([64, 64, rng.randint(2, 63)])
     with search.instead_of_enumeration():
         listed, record = ref.ranking(words, most), ref.record(words, most)
@@ -379,6 +383,63 @@ def record_input(rng, source=EVERY):
             return found
 
 
+# ---- where a plan stands
+
+def tied_counts(listed):
+    """Each K with which the first plan that is not listed costs the same as the last listed."""
+    return [k for k in range(1, min(65, len(listed))) if listed[k - 1][0] == listed[k][0]]
+
+
+def some_finds(rng, words, listed, k):
+    """The first plan of the list of k, its last and the two after it, the last and any of the book, and some that are not listed and cost the same as the last
+    listed; then slices that may be no plan."""
+    tied = [j for j in range(k, len(listed)) if listed[j][0] == listed[k - 1][0]]
+    places = {0, k - 1, k, k + 1, len(listed) - 1, rng.randrange(len(listed)), *rng.sample(tied, min(2, len(tied)))}
+    for j in sorted(places & {*range(len(listed))}):
+        yield from find(k, listed[j][1])
+    yield from find(k, books.bent_plan(rng, words, rng.choice(listed)[1]))
+    if books.closures(words):
+        yield from find(k, books.random_plan(rng, ref.Book(words)))
+
+
+def not_found(rng, words):
+    """Any slices in a book that is refused or has no plan, with counts that are allowed and that are not."""
+    slices = [[], [rng.choice([0, 0, 1, 255]) for _ in range(rng.randint(1, 64))]]
+    if not ref.check(words):
+        slices += [books.random_plan(rng, ref.Book(words)) for _ in range(2)]
+    for k in (rng.randint(1, 64), rng.choice([1, 64]), bad_count(rng)):
+        for slice_ in slices:
+            yield from find(k, slice_)
+
+
+def finding(rng, words):
+    """Plans of a book and slices that are none, in lists of a few K; some, where plans tie, end between two plans of one cost."""
+    yield from machine.book(words)
+    listed = [] if ref.check(words) else ref.in_order(tuple(words))
+    if not listed:
+        yield from not_found(rng, words)
+        return
+    tied = tied_counts(listed)
+    for k in sorted({some_count(rng, len(listed)), some_count(rng, len(listed)), *rng.sample(tied, min(2, len(tied)))}):
+        yield from some_finds(rng, words, listed, k)
+    yield from find(bad_count(rng), rng.choice([rng.choice(listed)[1], ()]))
+
+
+def finding_in_vast(rng):
+    """As finding, in a book that has too many plans to enumerate: those that are not listed are any."""
+    words = vast_book(rng)
+    with search.instead_of_enumeration():
+        listed = ref.ranking(words, 64)
+    yield from machine.book(words)
+    if not listed:
+        yield from not_found(rng, words)
+        return
+    for k in (64, rng.randint(1, 63)):
+        yield from some_finds(rng, words, listed, k)
+        for _ in range(3):
+            yield from find(k, books.random_plan(rng, ref.Book(words)))
+
+
 # ---- calls at a desk
 
 def any_ranks(rng):
@@ -487,6 +548,15 @@ def desk_from(source):
     return lambda rng: at_desk(rng, source)
 
 
+def finding_any(rng):
+    """In a book of any shape, each as often as SHAPES has it."""
+    return finding(rng, books.draw(rng, getattr(books, rng.choices(list(SHAPES), list(SHAPES.values()))[0])))
+
+
+def finding_faults(rng):
+    return finding(rng, some_faults(rng, EVERY))
+
+
 SHAPES = {'small': 250, 'deep': 130, 'wide': 56, 'ties': 140, 'few': 150, 'unreached': 80, 'crossing': 110, 'many': 30, 'edge': 80, 'large': 10, 'full': 4,
           'stops': 250, 'stops_each_stage': 100, 'stops_everywhere': 100, 'sure_stops': 80, 'post_0_stops': 60, 'stops_unreached': 50, 'stops_barely': 80,
           'stops_and_ties': 150, 'stops_and_gains': 80, 'stops_deep': 80, 'stops_wide': 50, 'stops_edge': 80, 'stops_many': 20, 'stops_large': 10,
@@ -499,11 +569,12 @@ KINDS.update({'fault %d' % n: (36, fault(n)) for n in range(1, 14)})
 KINDS.update({'seven': (40, seven), 'vast': (16, vast), 'faults': (120, faults(FAULTY)), 'stops, faults': (120, faults(FAULTY_STOPS)), 'wild': (60, wild),
               'bad counts': (60, bad_counts), 'noise': (140, noise), 'forged': (36, forged), 'longest': (4, longest), 'powers': (10, powers),
               'page': (200, some_page), 'desk': (100, desk_from(WITHOUT_CLOSED)), 'desk, closed': (60, desk_from(WITH_CLOSED)), 'convert': (200, conversion),
-              'closed, faults': (160, closed_faults), 'nine': (40, nine), 'depots, faults': (120, depot_faults), 'desk, depots': (40, desk_from(WITH_DEPOTS))})
+              'closed, faults': (160, closed_faults), 'nine': (40, nine), 'depots, faults': (120, depot_faults), 'desk, depots': (40, desk_from(WITH_DEPOTS)),
+              'find': (800, finding_any), 'find, faults': (120, finding_faults), 'find, vast': (12, finding_in_vast)})
 
 
 def make(seed, n, name):
-    return Case('%s:%d %s' % (seed, n, name), list(KINDS[name][1](random.Random('%s:%d' % (seed, n)))), name == 'vast')
+    return Case('%s:%d %s' % (seed, n, name), list(KINDS[name][1](random.Random('%s:%d' % (seed, n)))), name in ('vast', 'find, vast'))
 
 
 def fresh(seed, n):

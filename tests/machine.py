@@ -9,7 +9,8 @@ import rewards
 import search
 
 KINDS = {'end': 'e', 'read': 'i', 'text': 't', 'book': 'm', 'rank': 'r', 'write': 'w', 'check': 'c', 'least': 'l', 'value': 'v', 'power': 'd', 'accept': 'a',
-         'show': 's', 'browse': 'b', 'page': 'p', 'open': 'o', 'ask': 'h', 'commit': 'y', 'cancel': 'n', 'fill': 'f', 'convert': 'x'}
+         'show': 's', 'browse': 'b', 'page': 'p', 'open': 'o', 'ask': 'h', 'commit': 'y', 'cancel': 'n', 'fill': 'f', 'convert': 'x',
+         'find': 'q'}
 PLACES, MOST_COSTS, MOST_WORDS, FILL = 40960, 80, 5400, 77
 OUT, BOOK, TEXT = 8, 21504, 38400    # after k: where lent slices and records are put, books, and plans, titles and numbers for the desk
 PRINTED = 32
@@ -49,6 +50,10 @@ def book(words):
 
 def value(plan, at=TEXT):
     return [put(plan, at), Command('value', at, at + len(plan))]
+
+
+def find(k, plan, at=TEXT):
+    return [put(plan, at), Command('find', at, at + len(plan), k=k)]
 
 
 def rank(k, places, room):
@@ -195,6 +200,9 @@ class Machine:
 
     def value(self, c, part):
         return row(*ref.value(self.words, part), 0)
+
+    def find(self, c, part):
+        return row(*ref.find(self.words, c.k, part))
 
     def power(self, c, part):
         return row(0, c.k ** c.z if 1 <= c.k <= 100 and c.z <= 8 else 0, 0)

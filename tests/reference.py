@@ -1,4 +1,4 @@
-"""The rules of document 01 with the changes of document 02 (2.1, 2.3, 2.7, 2.9), word by word and without any search: plans and days are enumerated.
+"""The rules of document 01 with the changes of document 02 (2.1, 2.3, 2.7 to 2.9), word by word and without any search: plans and days are enumerated.
 
 Written from the documents alone. It shares nothing with the proved program, and is slow on purpose: every plan of the book is listed, every day
 of every plan is walked. Words below are those of the documents.
@@ -186,6 +186,11 @@ def ranking(words, k):
     return in_order(tuple(words))[:k]
 
 
+def plans_before(words, cost, plan):
+    """How many plans of a book that passes 1 to 13 come before one of them."""
+    return sum(row < (cost, plan) for row in in_order(tuple(words)))
+
+
 def count_no(k):
     return 0 if 1 <= k <= 64 else 14
 
@@ -196,7 +201,7 @@ def plan_no(words):
 
 
 def list_no(words, k):
-    """What ranking, writing and accepting ask of a book and K before any slice or the rest of a record: 1 to 14, then 28."""
+    """What ranking, writing, accepting and finding ask of a book and K before any slice or the rest of a record: 1 to 14, then 28."""
     return check(words) or count_no(k) or plan_no(words)
 
 
@@ -286,6 +291,25 @@ def show(data, j):
         return b''
     at = 12 + 4 * int.from_bytes(data[:4], 'little') + 8 * k + j * posts
     return data[at:at + posts]
+
+
+def find(words, k, slice_):
+    """(number, answer, value): 1, it is rank j; 2, it costs more than the last listed, by this amount over D^H; 3, it costs the same as the last listed, and at
+    this post, the first where they differ, takes the higher choice."""
+    no = list_no(words, k)
+    if no:
+        return no, 0, 0
+    book, plan = Book(words), tuple(slice_)
+    if not is_plan(book, plan):
+        return 17, 0, 0
+    cost = plan_cost(book, plan)
+    j = plans_before(words, cost, plan) + 1
+    if j <= k:
+        return 0, 1, j
+    last_cost, last = ranking(words, k)[-1]
+    if cost > last_cost:
+        return 0, 2, cost - last_cost
+    return 0, 3, min(post for post in range(book.posts) if plan[post] != last[post])
 
 
 # ---- the programs: standard input to standard output, both as bytes

@@ -90,12 +90,18 @@ def longest_list(words):
     return first(list(words), 64)
 
 
+def plans_before(words, cost, plan):
+    """As reference.plans_before, for a plan of the first 64; 64 for any other, which no list has."""
+    return sum(row < (cost, plan) for row in longest_list(tuple(words)))
+
+
 @contextlib.contextmanager
 def instead_of_enumeration():
     """The calls of reference.py, over this search."""
-    kept = ref.ranking, ref.is_plan, ref.plan_cost
+    kept = ref.ranking, ref.is_plan, ref.plan_cost, ref.plans_before
     ref.ranking, ref.is_plan, ref.plan_cost = (lambda words, k: longest_list(tuple(words))[:k]), is_plan, plan_cost
+    ref.plans_before = plans_before
     try:
         yield
     finally:
-        ref.ranking, ref.is_plan, ref.plan_cost = kept
+        ref.ranking, ref.is_plan, ref.plan_cost, ref.plans_before = kept

@@ -1,6 +1,6 @@
 #!/usr/bin/env python3
 """The stored cases are those that cases.py makes, and every call has a case for each number that it can give, and is accepted with stops, with closed choices
-and with depots. Run: python3 tests/test_cases.py"""
+and with depots; finding has cases for each of its answers. Run: python3 tests/test_cases.py"""
 
 import os
 import sys
@@ -16,7 +16,7 @@ import reference as ref
 
 BOOK = range(14)    # 0, and the questions 1 to 13
 NUMBERS = {'check': {*BOOK}, 'least': {*BOOK, 28}, 'value': {*BOOK, 17}, 'rank': {*BOOK, 14, 15, 16, 28}, 'write': {*BOOK, 14, 18, 28},
-           'accept': {*BOOK, 14, 19, 20, 21, 28}}
+           'accept': {*BOOK, 14, 19, 20, 21, 28}, 'find': {*BOOK, 14, 17, 28}}
 AT_DESK = {'open': NUMBERS['accept'], 'ask': {0, 22, 23, 24}, 'commit': {0, 22, 24}, 'cancel': {0, 22}}
 OF_TABLES = {'convert': {0, 4, 6, 9, 11, 12, 13, 25, 26, 27}}    # the book of a table always passes 1 to 3, 5, 7, 8 and 10
 
@@ -67,6 +67,20 @@ class Stored(unittest.TestCase):
         found = self.accepted_with(books.depots_at)
         self.assertGreater(min(found.values()), 30, found)
 
+    def test_answers(self):
+        """Each answer of finding stands in many cases of a book with stops, closed choices or depots, and in many of a book without; a refusal has none."""
+        every = books.stopping, books.closures, books.depots_at
+        found = {(has.__name__, part, answer): 0 for has in every for part in (True, False) for answer in (1, 2, 3)}
+        for case, transcript in zip(self.cases, self.of_case):
+            rows = [[int(x) for x in text.split()[1:]] for c, text in transcript if c.kind == 'find']
+            for no, answer, value in rows:
+                self.assertTrue(answer in (1, 2, 3) if no == 0 else (answer, value) == (0, 0), case.title)
+            for answer in {row[1] for row in rows} - {0}:
+                words, = machine.books_of(case)
+                for has in every:
+                    found[has.__name__, bool(has(words)), answer] += 1
+        self.assertGreater(min(found.values()), 10, found)
+
     def test_eight_and_nine(self):
         """At posts that are reached and that are not every call accepts 1 to 8 depots, and gives 8 for 9."""
         for n, number in ((1, 0), (2, 0), (8, 0), (9, 8)):
@@ -74,7 +88,8 @@ class Stored(unittest.TestCase):
                 self.gives('question 8: %d depots%s' % (n, where), number)
 
     def test_no_plan(self):
-        """In many cases a book has no plan. Then a call that lists gives 28 or 14 whatever the slices are, the least cost 28, and valuing 17."""
+        """In many cases a book has no plan. Then a call that lists, or finds in a list, gives 28 or 14 whatever the slices are, the least cost 28, and
+        valuing 17."""
         numbers, cases_of = {name: set() for name in NUMBERS}, 0
         for case, transcript in zip(self.cases, self.of_case):
             accepted = [words for words in machine.books_of(case) if ref.check(words) == 0]
@@ -83,7 +98,8 @@ class Stored(unittest.TestCase):
                 for c, text in transcript:
                     if c.kind in NUMBERS:
                         numbers[c.kind].add(int(text.split()[1]))
-        self.assertEqual(numbers, {'check': {0}, 'least': {28}, 'value': {17}, 'rank': {14, 28}, 'write': {14, 28}, 'accept': {14, 19, 28}})
+        self.assertEqual(numbers, {'check': {0}, 'least': {28}, 'value': {17}, 'rank': {14, 28}, 'write': {14, 28}, 'accept': {14, 19, 28},
+                                   'find': {14, 28}})
         self.assertGreater(cases_of, 25)
 
     def test_rows(self):

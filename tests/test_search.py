@@ -48,6 +48,19 @@ class Same(unittest.TestCase):
                     found[ref.is_plan(book, slice_)] += 1
         self.assertGreater(min(found.values()), 60, found)
 
+    def test_find(self):
+        """Plans of the first 64 and others, found by both ways."""
+        found = {answer: 0 for answer in range(4)}
+        for rng, words in self.books(240):
+            listed, k = ref.in_order(tuple(words)), rng.randint(1, 64)
+            for slice_ in [plan for _, plan in listed[:3] + rng.sample(listed, min(3, len(listed)))] + [()]:
+                for most in (1, k, 64):
+                    answer = ref.find(words, most, slice_)
+                    with search.instead_of_enumeration():
+                        self.assertEqual(ref.find(words, most, slice_), answer)
+                    found[answer[1]] += 1
+        self.assertGreater(min(found.values()), 60, found)
+
     def test_order(self):
         """A plan is listed exactly when fewer than K plans come before it, as plan j if j of them do."""
         for rng, words in self.books(160):

@@ -12,7 +12,8 @@
 //  r  ranks k policies into z costs         b  shows it through a browser
 //     and the part                          p  prints the page of the part
 //  w  writes their record into the part     x  converts the book, as a planners'
-//                                              table, into the words of the part
+//  q  finds the part, as a policy, in the      table, into the words of the part
+//     list of k policies
 //
 // At the desk the part has numbers of eight bytes, 0 where they are missing: the rider and the rank.
 //
@@ -123,6 +124,10 @@ fn ask(h: Head, b: &[i32], part: &[u8]) -> [i64; 3] {
     if h.kind == b'a' {
         let a = accept::accept(part);
         return [a.no as i64, figure(a.s), figure(a.k)];
+    }
+    if h.kind == b'q' {
+        let f = find::find(b, h.k, part);
+        return [f.no as i64, f.answer as i64, f.value];
     }
     [0, figure(power::power(h.k, h.z as usize) as usize), 0]
 }

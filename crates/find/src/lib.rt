@@ -15,6 +15,10 @@ pub struct Found {
     pub value: i64,
 }
 
+// Ranks are counted from 1, states from 0.
+const FIRST_RANK: i64 = 1;
+const FIRST_STATE: i64 = 0;
+
 // How many of the n listed policies stand above a plan: n where it is not listed.
 fn place_in(plans: &[u8], n: usize, plan: &[u8]) -> usize
     requires { ⌜ n * length (now plan) ≤ length (now plans) ⌝ }
@@ -47,7 +51,7 @@ fn beside_last(plans: &[u8], at: usize, last: i64, plan: &[u8], cost: i64) -> Fo
     Found {
         no: 0,
         answer: 3,
-        value: p as i64,
+        value: p as i64 + FIRST_STATE,
     }
 }
 
@@ -85,7 +89,7 @@ pub fn find(b: &[i32], k: usize, plan: &[u8]) -> Found
         return Found {
             no: 0,
             answer: 1,
-            value: j as i64 + 1,
+            value: j as i64 + FIRST_RANK,
         };
     }
     beside_last(&plans, (n - 1) * plan.len(), costs[n - 1], plan, v.cost)

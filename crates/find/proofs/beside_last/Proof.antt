@@ -3,9 +3,10 @@
 use borrow.Author.Needs.{needs}
 use mathlib.Core.Path.{_≡_, refl, sym, ap, _∙_}
 use mathlib.Core.Bool.{true, false}
+use Prim.Native.Nat.{ℕ, _^_, _<_}
 use native.Mathlib.Omega.{arith}
 use lib.Dec.{lit<}
-use lib.IntN.{ℤ, pos, _-ℤ_}
+use lib.IntN.{pos, _+ℤ_, _-ℤ_, +ℤ-idr}
 use lib.ListN.{length, take, drop}
 use lib.Seq.{take-all}
 use lib.Signed.{ltZ}
@@ -54,15 +55,31 @@ first-difference-requires c κs = search needs
 cast-t10 : tie.Need-cast-t10
 cast-t10 c = search needs
 
+-- the state as the machine holds it
+module _ (c : tie.After-first-difference) where
+  abbrev p : ℕ
+  p = c .first-difference .result
+
+  below : p < 2 ^ 63
+  below = search needs
+
+  state : toZ w64 p +ℤ pos 0 ≡ pos p
+  state = rw (toZ-pos w64 {n = p} below) (+ℤ-idr (pos p))
+
+  state-fits : SFits w64 (toZ w64 p +ℤ pos 0)
+  state-fits = rw state (record { sfits = below })
+
 returns-2 : tie.Need-returns-2
 returns-2 c =
     let s = c .before .before .before .before in
     let e = higher s (rw (toZ-ofZ (s .fits .cost), toZ-ofZ (s .fits .last)) at (c .before .if1 .left)) in
     let front = take (length (s .args .plan .now)) (drop (s .args .at) (s .args .plans .now)) in
     let whole = take-all (length (s .args .plan .now)) (s .args .plan .now) (omega arith) in
-    let p = c .first-difference .result in
-    let is : toZ w64 p ≡ pos p = toZ-pos w64 {n = p} (search needs) in
-    (refl, sym (ap answerNumber e), is ∙ ap pos (c .first-difference .ensures .0 ∙ ap (firstDifference front) whole) ∙ sym (ap answerValue e))
+    let first = ap pos (c .first-difference .ensures .0 ∙ ap (firstDifference front) whole) in
+    (refl, sym (ap answerNumber e), toZ-ofZ (state-fits c) ∙ state c ∙ first ∙ sym (ap answerValue e))
+
+add-t11 : tie.Need-add-t11
+add-t11 c = state-fits c
 
 pub beside-last-spec : {M : Type 1} → statement M
-beside-last-spec = tie.close (tie.spec sub-t8 returns first-difference-requires cast-t10 returns-2)
+beside-last-spec = tie.close (tie.spec sub-t8 returns first-difference-requires cast-t10 add-t11 returns-2)

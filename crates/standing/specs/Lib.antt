@@ -1,0 +1,4 @@
+pub mod Place
+pub mod Reasons
+pub mod Calls
+pub mod Example
