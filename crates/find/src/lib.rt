@@ -17,6 +17,7 @@ pub struct Found {
 
 // Ranks are counted from 1, states from 0.
 const FIRST_RANK: i64 = 1;
+
 const FIRST_STATE: i64 = 0;
 
 // How many of the n listed policies stand above a plan: n where it is not listed.
