@@ -15,9 +15,10 @@ pub struct Found {
     pub value: i64,
 }
 
-// Ranks are counted from 1, states from 0.
+// Ranks are counted from 1.
 const FIRST_RANK: i64 = 1;
 
+// States are counted from 0.
 const FIRST_STATE: i64 = 0;
 
 // How many of the n listed policies stand above a plan: n where it is not listed.
