@@ -520,6 +520,51 @@ def table_input(rng):
     return data
 
 
+# ---- input of the program that says where a plan stands
+
+def count_at_tie(rng, listed):
+    """A K whose list ends between two plans of one cost, if there is one; else a small one."""
+    return rng.choice(tied_counts(listed) or [1, 2])
+
+
+def some_plan(rng, words, listed, k):
+    """A plan of the list or near its end, one that costs as much as the last listed, any other; or a slice that may be none."""
+    kind = rng.randrange(8)
+    if kind == 0:
+        return books.bent_plan(rng, words, rng.choice(listed)[1])
+    if kind == 1:
+        return books.random_plan(rng, ref.Book(words))
+    tied = [j for j in range(k, len(listed)) if listed[j][0] == listed[k - 1][0]]
+    places = tied if tied and kind < 5 else [0, k - 1, k, k + 1, len(listed) - 1, rng.randrange(len(listed))]
+    return listed[min(rng.choice(places), len(listed) - 1)][1]
+
+
+def any_find(rng):
+    """A plan with its length in front, K and a book, often one of several plans; or one of them refused, a length that is not the plan's, or bytes cut off."""
+    data = page_input(rng)
+    if rng.random() < 0.4:
+        words, k = some_plans(rng, EVERY)
+        data = machine.little(k, 4) + book_bytes(words)
+    no, k, words = ref.asked(data)
+    plan = [rng.choice([0, 0, 1, 255]) for _ in range(rng.choice([0, 1, 3, 20, 255]))]
+    if no == 0:
+        listed = ref.in_order(tuple(words))
+        if rng.random() < 0.4:
+            k = count_at_tie(rng, listed)
+            data = machine.little(k, 4) + data[4:]
+        plan = some_plan(rng, words, listed, k)
+    length = min(255, len(plan) + rng.choice([-1, 1, 4, 200])) if plan and rng.random() < 0.04 else len(plan)
+    data = bytes([length]) + bytes(plan) + data
+    return data[:rng.randrange(len(data) + 1)] if rng.random() < 0.04 else data
+
+
+def find_input(rng):
+    while True:
+        found = any_find(rng)
+        if input_feasible(found[1 + found[0]:] if found else b''):
+            return found
+
+
 # ---- which kinds there are
 
 def good_of(shape):

@@ -1,6 +1,6 @@
 #!/usr/bin/env python3
-"""The four programs in target/bin: kbest and kbest_file, which read K and a book, kbest_page, which reads a record, and kbest_table, which reads a planners'
-table; compared with reference.py and rewards.py.
+"""The five programs in target/bin: kbest and kbest_file, which read K and a book, kbest_page, which reads a record, kbest_find, which reads a plan, K and a
+book, and kbest_table, which reads a planners' table; compared with reference.py and rewards.py.
 
     tests/programs.py [COUNT] [SEED]     the edges of what they read, then random inputs to each, by default 300 of seed 1
     tests/programs.py store              writes the stored input and output of their crates; the same on every run
@@ -16,6 +16,7 @@ import subprocess
 import sys
 import time
 
+import books
 import cases
 import kinds
 import reference as ref
@@ -26,8 +27,21 @@ import tours
 from machine import book_bytes, little
 
 ROOT = os.path.join(os.path.dirname(os.path.abspath(__file__)), '..')
+ANSWERS = {1: b'rank', 2: b'more', 3: b'post'}
+
+
+def plan_line(data):
+    """The length of a plan in one byte, the plan, then K and a book: the line that says where the plan stands."""
+    length = data[0] if data else 0
+    no, k, words = ref.asked(data[1 + length:])
+    if no:
+        return ref.refusal(no)
+    no, answer, value = ref.find(words, k, data[1:1 + length])
+    return ref.refusal(no) if no else b'%s %d\n' % (ANSWERS[answer], value)
+
+
 PROGRAMS = {'kbest': (ref.page, kinds.page_input), 'kbest_file': (ref.filed, kinds.page_input), 'kbest_page': (ref.record_page, kinds.record_input),
-            'kbest_table': (rewards.table_book, kinds.table_input)}
+            'kbest_find': (plan_line, kinds.find_input), 'kbest_table': (rewards.table_book, kinds.table_input)}
 SLOWLY = 10    # one random input in so many
 PIECES, PAUSE = 12, 0.002
 
@@ -115,6 +129,48 @@ def record_edges():
     yield 'a byte after the record of A', a + b'\0'
 
 
+def with_plan(plan, data):
+    return bytes([len(plan)]) + bytes(plan) + data
+
+
+def first_and_later(words):
+    """The first and the last plan of the longest list, and one that takes the last open choice everywhere."""
+    with search.instead_of_enumeration():
+        listed = ref.ranking(words, 64)
+    book, later, reached = ref.Book(words), [], {0}
+    for post in range(book.posts):
+        later.append(max(c for c in range(book.counts[post]) if book.is_open(post, c)) if post in reached else 255)
+        if post in reached:
+            reached.update(step for step, _ in book.next_posts(post, later[post]))
+    return listed[0][1], listed[-1][1], later
+
+
+def tied_at_the_last_post():
+    """A book of 64 posts and two plans of one cost, which differ at post 63 alone."""
+    sizes = [1, 7] + [8] * 7
+    later = [[(0, [(7, 1)])] for _ in range(sum(sizes[1:-1]))] + [[(0, [])]] * 7 + [[(0, []), (0, [])]]
+    return books.build(1, sizes, [[(0, [(6, 1)])]] + later)
+
+
+def find_edges():
+    longest, a = longest_input(), little(3, 4) + book_bytes(tours.book_a())
+    tied = tied_at_the_last_post()
+    for k in (1, 2):
+        yield from (('two plans of one cost, K = %d' % k, with_plan(plan, little(k, 4) + book_bytes(tied))) for _, plan in ref.in_order(tuple(tied)))
+    for what, words in (('the longest book', cases.largest()), ('the longest book with stops', cases.largest_with_stops())):
+        for plan in first_and_later(words):
+            yield from (('%s, K = %d' % (what, k), with_plan(plan, little(k, 4) + book_bytes(words))) for k in (1, 64))
+    yield 'the longest book without a plan', with_plan([0] * 64, little(64, 4) + book_bytes(cases.largest_without_plan()))
+    for length in (0, 64, 255):
+        yield from (('%d bytes after the longest book and a plan of %d' % (n, length), with_plan([0] * length, longest + bytes(n)))
+                    for n in (0, 1, 2, 3, 4, 5, 6, 7, 8, 70000))
+    for plan in ((1, 0, 255), (0, 0, 0), (0, 0, 255)):
+        yield from (('%s in A, K = %d' % (plan, k), with_plan(plan, little(k, 4) + book_bytes(tours.book_a()))) for k in (0, 1, 2, 3, 65))
+    whole = with_plan((0, 0, 0), a)
+    yield from (('the first %d bytes of a plan and A' % n, whole[:n]) for n in (*range(13), len(whole) - 1))
+    yield from (('%d bytes after A' % n, whole + bytes(n)) for n in range(1, 5))
+
+
 def longest_table():
     """A table of 4,117 words, all that can be accepted, one word less than is read."""
     return book_bytes(tables.longest(random.Random('longest')))
@@ -132,7 +188,7 @@ def table_edges():
     yield from (('%d bytes after a table' % n, small + bytes(n)) for n in range(1, 5))
 
 
-EDGES = {'kbest': input_edges, 'kbest_file': input_edges, 'kbest_page': record_edges, 'kbest_table': table_edges}
+EDGES = {'kbest': input_edges, 'kbest_file': input_edges, 'kbest_page': record_edges, 'kbest_find': find_edges, 'kbest_table': table_edges}
 
 
 def edge_differs(name, data):
@@ -153,9 +209,9 @@ def edges():
 
 def stored():
     """For each crate its input and output. If kbest or kbest_file read a word less it would accept the book, and if it counted one byte more it would say 1;
-    if kbest_page read a byte less it would accept the record, and if kbest_table read a word less the table."""
+    if kbest_page read a byte less it would accept the record, and if kbest_table read a word less the table. With a word less kbest_find would come to 17."""
     inputs = {'kbest': longest_input() + bytes(5), 'kbest_file': longest_input() + bytes(5), 'kbest_page': longest_record(cases.largest()) + bytes(1),
-              'kbest_table': longest_table() + bytes(5)}
+              'kbest_find': with_plan([0] * 255, longest_input() + bytes(5)), 'kbest_table': longest_table() + bytes(5)}
     with search.instead_of_enumeration():
         return {name: (data, PROGRAMS[name][0](data)) for name, data in inputs.items()}
 

@@ -63,6 +63,26 @@ def reward_page(words, k):
     return ('\n'.join(lines) + '\n').encode()
 
 
+def as_printed(plan):
+    return ['-' if c == 255 else str(c) for c in plan]
+
+
+def told(words, k, plan):
+    """What is said of a plan of the book, by reference.py."""
+    _, answer, value = ref.find(words, k, plan)
+    if answer == 1:
+        return b'Your plan is rank %d on the list.\n' % value
+    found, scale = ref.Book(words), words[0] ** words[1]
+    if answer == 2:
+        amount = '%d/%d' % (value, scale)
+        said = amount + ' seconds more' if value % scale else '%d second%s more%s' % (
+            value // scale, 's' * (value != scale), ' (%s)' % amount if scale > 1 else '')
+        return ('Your plan is not on the list: it costs %s than the last plan listed, rank %d.\n' % (said, k)).encode()
+    name = 'depot' if found.stage[value] == found.stages else 'choice'
+    return ('Your plan is not on the list: it costs the same as the last plan listed, rank %d, and at post %d, the first where they differ, '
+            'it takes %s %d and that plan a lower one.\n' % (k, value, name, plan[value])).encode()
+
+
 def accepted_books(count, shapes):
     """Random books that pass 1 to 13 and 28, each with a K that is allowed."""
     rng = random.Random('command')
@@ -202,6 +222,8 @@ class Verbs(Folder):
             given = f.read()
         self.expect(run('-', '8', data=given.replace(b' depot ', b' choice ')), 0, page)
         self.expect(run('check', path), 0, b'accepted\n')
+        for plan, said in (('0 1 1', b'Your plan is rank 2 on the list.\n'), ('5 68 1 1 -', told(DEPOTS, 3, (1, 1, 255))), ('0 0 1', told(DEPOTS, 3, (0, 0, 1)))):
+            self.expect(run('find', path, '3', *plan.split()), 0, said)
         self.expect(run('file', path, '8', '-o', self.path('record')), 0, b'')
         self.expect(run('page', self.path('record')), 0, page)
         nine = given + b''.join(b'depot %d cost 3\n' % c for c in range(2, 9))
@@ -221,6 +243,73 @@ class Verbs(Folder):
             done = run(*words)
             self.assertEqual((done.returncode, done.stderr), (0, b''))
             self.assertIn(b'usage: kbest', done.stdout)
+
+
+class Find(Folder):
+    """Where a plan stands, in the ways that a plan can be written."""
+
+    FIRST, LAST = b'Your plan is rank 1 on the list.\n', b'Your plan is not on the list: it costs '
+
+    def says(self, words, k, plan, said):
+        self.expect(run('find', '-', str(k), *plan.split(), data=text(words)), 0, said)
+
+    def test_ways(self):
+        """From a file and from standard input; in words, in one word, in some; with the rank and the cost in front, which are not looked at."""
+        source = self.file('source', A)
+        for plan in (['1', '0', '-'], ['1 0 -'], [' 1\t0 -\n'], ['1', '0 -'], ['1', '32', '1', '0', '-'], ['1 32 1 0 -'], ['64', '-7', '1', '0', '-'],
+                     ['2 999999999999999999999 1 0 -'], ['--', '1', '0', '-'], ['01', '00', '-']):
+            with self.subTest(plan=plan):
+                self.expect(run('find', source, '3', *plan), 0, self.FIRST)
+                self.expect(run('find', '-', '3', *plan, data=A), 0, self.FIRST)
+        self.assertEqual(os.listdir(self.folder), ['source'])
+
+    def test_no_line(self):
+        """What is no line of a page is taken as it stands, and then has two posts too many."""
+        for plan in ('0 32 1 0 -', '65 32 1 0 -', '- 32 1 0 -', '1 - 1 0 -', '1 0 - 1 0 -', '2 1 0 -'):
+            self.expect(run('find', '-', '3', *plan.split(), data=A), 1, b'refused 17\n', reason(17))
+
+    def test_ranks(self):
+        for k, plan, rank in ((1, '1 0 -', 1), (2, '0 0 0', 2), (64, '0 0 0', 2)):
+            self.says(tours.book_a(), k, plan, b'Your plan is rank %d on the list.\n' % rank)
+
+    def test_amounts(self):
+        last = b' than the last plan listed, rank %d.\n'
+        for words, k, plan, amount in ((tours.book_a(), 1, '0 0 0', b'1/2 seconds more'), (tours.book_a(closing=10), 1, '0 0 0', b'1 second more (2/2)'),
+                                       (tours.book_a(cost=-10), 1, '1 0 -', b'39/2 seconds more'), (DEPOTS, 4, '1 0 -', b'4 seconds more (16/4)'),
+                                       (tours.book_c(), 1, '0 0 - 0', b'1 second more'), (tours.book_c(), 2, '0 1 - 0', b'3 seconds more')):
+            self.says(words, k, plan, self.LAST + amount + last % k)
+
+    def test_ties(self):
+        same = self.LAST + b'the same as the last plan listed, rank %d, and at post %d, the first where they differ, it takes %s and that plan a lower one.\n'
+        self.says(tours.book_a(closing=8), 1, '1 0 -', same % (1, 0, b'choice 1'))
+        self.says(DEPOTS, 1, '0 1 1', same % (1, 2, b'depot 1'))
+        self.says(DEPOTS, 3, '0 0 1', same % (3, 2, b'depot 1'))
+
+    def test_random_books(self):
+        rng, met = random.Random('find'), set()
+        ties = [books.ties, books.stops_and_ties, books.closed_and_ties, books.depots_and_ties]
+        for words, k in [*accepted_books(5, books.SHAPES), *accepted_books(5, books.WITH_CLOSED), *accepted_books(15, ties)]:
+            listed = ref.in_order(tuple(words))
+            k = rng.choice([k, kinds.count_at_tie(rng, listed)])
+            for cost, plan in {listed[min(j, len(listed) - 1)] for j in (k - 1, k, rng.randrange(len(listed)))}:
+                met.add(ref.find(words, k, plan)[1])
+                line = [str(rng.randint(1, 64)), str(cost)] if rng.random() < 0.5 else []
+                self.expect(run('find', '-', str(k), *line, *as_printed(plan), data=text(words)), 0, told(words, k, plan))
+        self.assertEqual(met, {1, 2, 3})
+
+    def test_refused(self):
+        """17 of what is no plan, short and long, and the questions before it."""
+        for plan in ([''], ['0', '0'], ['1', '0', '0'], ['2', '0', '0'], ['-', '-', '-'], ['254', '0', '0'], ['0'] * 300, ['0'] * 255):
+            self.expect(run('find', '-', '3', *plan, data=A), 1, b'refused 17\n', reason(17))
+        shut = books.close(tours.book_a(), [(1, 0)])
+        for words, k, number in ((tours.book_a(scale=1), 3, 12), (tours.book_a(), 0, 14), (tours.book_a(), 65, 14), (shut, 3, 28), ([2, 1], 3, 1)):
+            self.expect(run('find', '-', str(k), '0', '0', data=text(words)), 1, b'refused %d\n' % number, reason(number))
+
+    def test_wrong_words(self):
+        for word in ('x', '255', '256', '-1', '+1', '1.0', '--1', '9' * 5000, '\u0661', '0x1'):
+            with self.subTest(word=word[:9]):
+                self.expect_reason(run('find', '-', '3', '1', word, '-', data=A), 2)
+                self.expect_reason(run('find', '-', '3', '1 %s -' % word, data=A), 2)
 
 
 class RoundTrips(Folder):
@@ -320,7 +409,7 @@ class Refusals(Folder):
     def each_verb(self, source, number, *verbs):
         self.file('kept', OLD)
         for verb, *more in verbs:
-            ways = [[]] if verb == 'check' else [[], ['-o', self.path('none')], ['-o', self.path('kept')]]
+            ways = [[]] if verb in ('check', 'find') else [[], ['-o', self.path('none')], ['-o', self.path('kept')]]
             for way in ways:
                 self.expect(run(verb, source, *more, *way), 1, b'' if verb == 'file' else b'refused %d\n' % number, reason(number))
         self.assertEqual(self.content('kept'), OLD)
@@ -335,7 +424,7 @@ class Refusals(Folder):
                 self.expect(run('print', self.path('source'), '3'), 1, b'refused %d\n' % number, reason(number))
 
     def test_files(self):
-        self.each_verb(self.file('source', text(tours.book_a(scale=1))), 12, ('print', '3'), ('file', '3'))
+        self.each_verb(self.file('source', text(tours.book_a(scale=1))), 12, ('print', '3'), ('file', '3'), ('find', '3', '1 0 -'))
 
     def test_counts(self):
         source = self.file('source', A)
@@ -379,12 +468,14 @@ class Wrong(Folder):
     def test_commands(self):
         for words in ([], ['-'], ['print', '-'], ['print'], ['file', '-'], ['page'], ['check'], ['page', '-', '3'], ['print', '-', '3', '4'],
                       ['unknown', '-', '3'], ['rewards', '-'], ['rewards', '-', '3', '4'], ['convert', '-', '3'], ['convert'],
+                      ['find'], ['find', '-'], ['find', '-', '3'], ['find', '-', '3', '1 0 -', '-o', 'x'],
                       ['check', '--book', '--table', '-'], ['check', '--page', '-'], ['check', '--book', '--record', '-'], ['check', '-', '-o', 'x'],
                       ['print', '-', '3', '-o'], ['-x', '-', '3']):
             with self.subTest(words=words):
                 self.wrong(*words)
 
     def test_counts(self):
+        self.wrong('find', '-', '-1', '1 0 -')
         for verb, count in (('print', '-1'), ('file', '-1'), ('rewards', '-1'), ('print', 'three'), ('print', '3.0'), ('print', ''), ('print', '+3'),
                             ('print', '4294967296'), ('file', '4294967296'), ('rewards', '4294967296'), ('print', '9' * 5000)):
             with self.subTest(verb=verb, count=count[:20]):
@@ -393,17 +484,19 @@ class Wrong(Folder):
 
     def test_files(self):
         for path in (self.path('none'), self.folder, ''):
-            for words in (['file', path, '3'], ['page', path], ['rewards', path, '3'], ['convert', path], ['check', path], [path, '3']):
+            for words in (['file', path, '3'], ['page', path], ['find', path, '3', '0'], ['rewards', path, '3'], ['convert', path], ['check', path],
+                          [path, '3']):
                 with self.subTest(words=words):
                     self.wrong(*words)
 
     def test_closed_input(self):
-        for words in (['print', '-', '3'], ['page', '-'], ['check', '-']):
+        for words in (['print', '-', '3'], ['page', '-'], ['find', '-', '3', '0'], ['check', '-']):
             done = subprocess.run(['sh', '-c', 'exec "$@" <&-', 'sh', *PYTHON, KBEST, *words], capture_output=True)
             self.expect_reason(done, 2)
 
     def test_texts(self):
         for data in (b'', b'scale 2\nplace 0\n', b'scale 2\n\xff', A_3, b'scale ' + b'9' * 5000, A + b'stop weight 2\n'):
+            self.wrong('find', '-', '3', '0', data=data)
             for verb in ('print', 'file'):
                 with self.subTest(verb=verb, data=data[:20]):
                     self.wrong(verb, '-', '3', '-o', self.path('none'), data=data)
@@ -498,7 +591,8 @@ class Unwritten(Folder):
 
     def test_devices(self):
         with open('/dev/full', 'wb') as full:
-            for words in (['print', '-', '3'], ['print', '-', '0'], ['file', '-', '3'], ['check', '-'], ['-h']):
+            for words in (['print', '-', '3'], ['print', '-', '0'], ['file', '-', '3'], ['find', '-', '3', '1 0 -'], ['find', '-', '3', '1'], ['check', '-'],
+                          ['-h']):
                 done = subprocess.run([*PYTHON, KBEST, *words], input=A, stdout=full, stderr=subprocess.PIPE)
                 self.assertEqual(done.returncode, 3, words)
                 self.assertIn(b'standard output', done.stderr)
@@ -550,8 +644,8 @@ class Written(Folder):
 # ---- the first run, with an acted toolchain
 
 CRATES = '# a comment: not a crate\nlaws:\npage: laws io    # io is a library\nother: laws\n\nkbest: page io\nkbest_file: page io\nkbest_page: page io\n\
-kbest_table: laws io\n'
-NEEDED = 'laws', 'page', 'kbest', 'kbest_file', 'kbest_page', 'kbest_table'
+kbest_find: page io\nkbest_table: laws io\n'
+NEEDED = 'laws', 'page', 'kbest', 'kbest_file', 'kbest_page', 'kbest_find', 'kbest_table'
 PROGRAM = '#!/bin/sh\ncat >/dev/null\necho made\n'
 RT = '''#!/bin/sh
 echo "$*" >>calls
@@ -616,30 +710,33 @@ class FirstRun(Folder):
     def test_silent_and_once(self):
         self.made()
         self.made()
-        self.assertEqual(self.calls(), ['check kbest kbest_file kbest_page kbest_table'])
+        self.assertEqual(self.calls(), ['check kbest kbest_file kbest_page kbest_find kbest_table'])
         self.assertIn(b'logic=proved', self.content('target/kbest.log'))
 
     def test_each_program(self):
         for words, data in ((['print', '-', '3'], A), (['file', '-', '3'], A), (['page', '-'], A), (['rewards', '-', '3'], TABLE)):
             self.expect(run(*words, data=data, **self.how()), 0, b'made\n')
+        self.expect_reason(run('find', '-', '3', '1 0 -', data=A, **self.how()), 3)    # which is no answer
+        self.file('target/bin/kbest_find', b'#!/bin/sh\ncat >/dev/null\necho rank 7\n')
+        self.expect(run('find', '-', '3', '1 0 -', data=A, **self.how()), 0, b'Your plan is rank 7 on the list.\n')
 
     def test_terminal(self):
         shown, status, out = on_terminal(['stderr'], ['-', '3'], data=A, **self.how())
         self.assertEqual((status, out), (0, b'made\n'))
         said = b'proving and building the programs (some minutes, once): '
-        self.assertEqual(shown, b''.join(b'\r' + said + b'%d of 6 crates' % n for n in range(7)) + b'\r\n')
+        self.assertEqual(shown, b''.join(b'\r' + said + b'%d of 7 crates' % n for n in range(8)) + b'\r\n')
         self.assertEqual(on_terminal(['stderr'], ['-', '3'], data=A, **self.how()), (b'', 0, b'made\n'))
 
     def test_unchanged_crates_count(self):
         self.made()
         self.later('crates/page/src/lib.rt', -1)
         os.remove(self.path('target/kbest.stamp'))
-        for name in ('kbest', 'kbest_file', 'kbest_page', 'kbest_table'):
+        for name in NEEDED[2:]:
             self.later('target/bin/' + name, -60)
         shown, status, _ = on_terminal(['stderr'], ['-', '3'], data=A, **self.how())
         self.assertEqual(status, 0)
         self.assertIn(b'unchanged', self.content('target/kbest.log'))
-        self.assertTrue(shown.endswith(b': 6 of 6 crates\r\n'))
+        self.assertTrue(shown.endswith(b': 7 of 7 crates\r\n'))
         self.made()
         self.assertEqual(len(self.calls()), 2)
 
@@ -673,8 +770,9 @@ class FirstRun(Folder):
         self.assertEqual(len(self.calls()), 1)
 
     def test_wrong_book_first(self):
-        """What is wrong with the command or the book is said before anything is built."""
+        """What is wrong with the command, the book or the plan is said before anything is built."""
         self.expect_reason(run('-', '3', data=b'no book', **self.how()), 2)
+        self.expect_reason(run('find', '-', '3', '1 0 x', data=A, **self.how()), 2)
         self.assertFalse(os.path.exists(self.path('calls')))
 
     def test_fails(self):
@@ -685,7 +783,7 @@ class FirstRun(Folder):
             shown, status, out = on_terminal(['stderr'], ['-', '3'], data=A, **self.how(act))
             self.assertEqual((status, out), (3, b''))
             self.assertIn(why, shown)
-            self.assertIn(b'%d of 6 crates\r\n' % (act == 'fail'), shown)
+            self.assertIn(b'%d of 7 crates\r\n' % (act == 'fail'), shown)
         self.assertFalse(os.path.exists(self.path('page')))
         self.made()
 

@@ -270,6 +270,11 @@ def choice_name(post, later):
     return 'choice' if later or len(post) < 2 else 'depot'
 
 
+def choice_names(stages):
+    """What a choice is called at each post."""
+    return [choice_name(post, stages[n + 1:]) for n, stage in enumerate(stages) for post in stage]
+
+
 def choice_line(name, choice, cost):
     return '    %s %d ' % (name, choice) + ('closed' if cost == CLOSED else 'cost %d' % cost)
 
@@ -348,7 +353,7 @@ def record_to_text(data):
         raise Refused('D^H is %d' % whole)
     if len(data) != at + 8 * k + k * posts:
         raise Refused('after the book there are %d bytes, and %d plans of %d posts take %d' % (len(data) - at, k, posts, 8 * k + k * posts))
-    names = [choice_name(post, stages[n + 1:]) for n, stage in enumerate(stages) for post in stage]
+    names = choice_names(stages)
     out = ['# a record: a book of %d words, K = %d, k = %d' % (w, most, k), '']
     out.append(text_of_words(words))
     for j in range(k):
