@@ -465,6 +465,32 @@ pub fn rank(words: &[i32], k: usize, costs: &mut [i64], plans: &mut [u8]) -> (u3
     (0, list(&book, &t, k, costs, plans))
 }
 
+/// The number; then 1, the plan is listed, 2, it costs more than the last listed, or 3, it costs the same; and its rank, the amount, or the first post where it
+/// differs from the last listed.
+pub fn find(words: &[i32], k: usize, plan: &[u8]) -> (u32, u32, i64) {
+    found(words, k, plan).map_or_else(|no| (no, 0, 0), |(answer, value)| (0, answer, value))
+}
+
+fn found(words: &[i32], k: usize, plan: &[u8]) -> Result<(u32, i64), u32> {
+    let book = asked(words, k)?;
+    let t = Solved::new(&book);
+    if !t.has_plan() {
+        return Err(28);
+    }
+    let cost = book.value(plan).ok_or(17u32)?;
+    let (mut costs, mut plans) = ([0; PLANS], [0; PLANS * POSTS]);
+    let n = list(&book, &t, k, &mut costs, &mut plans);
+    let listed = plans[..n * book.s].chunks_exact(book.s);
+    if let Some(j) = costs[..n].iter().zip(listed.clone()).position(|(&c, p)| c == cost && p == plan) {
+        return Ok((1, j as i64 + 1));
+    }
+    let (last_cost, last) = (costs[n - 1], &plans[(n - 1) * book.s..]);
+    if cost > last_cost {
+        return Ok((2, cost - last_cost));
+    }
+    Ok((3, last.iter().zip(plan).take_while(|(a, b)| a == b).count() as i64))
+}
+
 pub fn write(words: &[i32], k: usize, record: &mut [u8]) -> (u32, usize) {
     let book = match asked(words, k) {
         Ok(book) => book,

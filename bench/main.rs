@@ -3,6 +3,7 @@
 
 mod baseline;
 
+use kbest::Standing;
 use std::hint::black_box;
 use std::time::Instant;
 
@@ -211,7 +212,9 @@ fn number<T>(answer: Result<T, kbest::Refused>, none: T) -> (u32, T) {
     answer.map_or_else(|r| (r.number(), none), |t| (0, t))
 }
 
-fn assert_equal(book: &[i32]) {
+/// `finds` counts what finding gives: refusals, and each of the three answers.
+fn assert_equal(book: &[i32], finds: &mut [usize; 4]) {
+    let sought = sought(book);
     let mut no = number(kbest::check(book), ()).0;
     assert_eq!(no, baseline::check(book), "check of {book:?}");
     assert_eq!(number(kbest::least(book), 0), baseline::least(book), "least of {book:?}");
@@ -221,6 +224,11 @@ fn assert_equal(book: &[i32]) {
         assert_eq!(ranked, baseline::rank(book, k, &mut b.costs, &mut b.plans), "rank of {book:?}");
         assert!(a.costs == b.costs && a.plans == b.plans, "list of {book:?}");
         assert_equal_values(book, &mut a.plans, ranked.1);
+        for plan in &sought {
+            let found = find_library(book, k, plan);
+            assert_eq!(found, baseline::find(book, k, plan), "find of {plan:?} in {book:?}");
+            finds[found.1 as usize] += 1;
+        }
         let written = number(kbest::write(book, k, &mut a.record), 0);
         assert_eq!(written, baseline::write(book, k, &mut b.record), "write of {book:?}");
         assert!(a.record == b.record, "record of {book:?}");
@@ -273,6 +281,34 @@ fn posts(book: &[i32]) -> usize {
     book[3..4 + book[1] as usize].iter().sum::<i32>() as usize
 }
 
+/// Plans to find: some of the list of 64, on both sides of where shorter lists end, each also with one byte changed; any bytes where there is no list.
+fn sought(book: &[i32]) -> Vec<Vec<u8>> {
+    let mut room = Room::new();
+    let listed = rank_library(book, 64, &mut room);
+    if listed == 0 {
+        return vec![vec![], vec![0; 3]];
+    }
+    let s = posts(book);
+    let mut plans = vec![];
+    for j in [0, 1, 2, 3, 7, 8, 63].into_iter().filter(|&j| j < listed) {
+        let mut plan = room.plans[j * s..(j + 1) * s].to_vec();
+        plans.push(plan.clone());
+        plan[j * 7 % s] ^= 1;
+        plans.push(plan);
+    }
+    plans
+}
+
+/// The number, which of the three answers, and its figure.
+fn find_library(book: &[i32], k: usize, plan: &[u8]) -> (u32, u32, i64) {
+    match kbest::find(book, k, plan) {
+        Err(refused) => (refused.number(), 0, 0),
+        Ok(Standing::Listed(rank)) => (0, 1, rank as i64),
+        Ok(Standing::CostsMore(amount)) => (0, 2, amount),
+        Ok(Standing::TakesHigher(post)) => (0, 3, post as i64),
+    }
+}
+
 /// Values the plans of a list, each as listed and with one byte changed.
 fn assert_equal_values(book: &[i32], plans: &mut [u8], listed: usize) {
     if listed == 0 {
@@ -290,7 +326,7 @@ fn assert_equal_values(book: &[i32], plans: &mut [u8], listed: usize) {
 
 /// How many books were compared; the choices of half of them may stop, and `closed` of 100 choices are closed. Then some have a plan and some have none. A post
 /// of the last stage has up to `most_depots` choices.
-fn assert_small_books(rng: &mut Random, closed: i32, most_depots: i32) -> usize {
+fn assert_small_books(rng: &mut Random, closed: i32, most_depots: i32, finds: &mut [usize; 4]) -> usize {
     let (mut compared, mut without_plan) = (0, 0);
     for round in 0..800 {
         let stops = if round % 2 == 0 { 0 } else { 50 };
@@ -301,14 +337,14 @@ fn assert_small_books(rng: &mut Random, closed: i32, most_depots: i32) -> usize 
         let mut book = random_book(rng, &shape);
         assert_eq!(kbest::check(&book), Ok(()), "a book that is not spoiled is accepted: {book:?}");
         without_plan += kbest::least(&book).is_err() as i32;
-        assert_equal(&book);
+        assert_equal(&book, finds);
         let at = rng.from(0, book.len() as i32 - 1) as usize;
         book[at] += rng.from(-2, 2);
-        assert_equal(&book);
+        assert_equal(&book, finds);
         compared += 2;
         if round % 8 < 2 {
             book.truncate(at);
-            assert_equal(&book);
+            assert_equal(&book, finds);
             compared += 1;
         }
     }
@@ -506,6 +542,30 @@ fn ratios(name: &str, book: &[i32]) {
     );
 }
 
+/// The same for finding the last plan of the list of 64 in the lists of 1, 8 and 64; in a book without a plan any bytes.
+fn find_ratios(name: &str, book: &[i32]) {
+    let mut room = Room::new();
+    let s = posts(book);
+    let at = rank_library(book, 64, &mut room).saturating_sub(1) * s;
+    let plan = &room.plans[at..at + s];
+    let row = [1, 8, 64].map(|k| {
+        let library = || kbest::find(black_box(book), black_box(k), black_box(plan));
+        ratio(library, || baseline::find(black_box(book), black_box(k), black_box(plan)))
+    });
+    println!("{name:29} {}", row.map(|r| format!("{r:7.2}")).join(" "));
+}
+
+fn find_table(books: &[(&str, Vec<i32>)], without_plan: &[(&str, Vec<i32>)]) {
+    println!("\nfinding the last of 64 plans, library time / Rust time");
+    println!("{:29} {:>7} {:>7} {:>7}", "", "find 1", "find 8", "find 64");
+    for (name, book) in books {
+        find_ratios(&format!("{name}, {} lines", book[2]), book);
+    }
+    for (name, book) in without_plan {
+        find_ratios(&format!("no plan ({name}), {} lines", book[2]), book);
+    }
+}
+
 /// The same for the calls that refuse a book without a plan. The record is one that says it lists a plan.
 fn refusal_ratios(name: &str, book: &[i32]) {
     let (mut a, mut b) = (Room::new(), Room::new());
@@ -605,9 +665,10 @@ fn only(words: &[String], books: &[(&str, Vec<i32>)]) {
             "check" => check_library(book) as usize,
             "value" => kbest::value(black_box(book), black_box(&plan)).is_ok() as usize,
             "least" => kbest::least(black_box(book)).is_ok() as usize,
+            "find" => kbest::find(black_box(book), black_box(k), black_box(&plan)).is_ok() as usize,
             "rank" => rank_library(book, k, &mut room),
             "rust" => rank_rust(book, k, &mut room),
-            _ => panic!("check, value, least, rank or rust"),
+            _ => panic!("check, value, least, find, rank or rust"),
         };
         black_box(answer);
     }
@@ -633,25 +694,26 @@ fn main() {
     if !words.is_empty() {
         return only(&words, &books);
     }
-    let by_lines = books_by_lines(&mut rng);
+    let (by_lines, mut finds) = (books_by_lines(&mut rng), [0; 4]);
     for book in books.iter().map(|(_, b)| b).chain(by_lines.iter().map(|(_, b)| b)) {
         assert_eq!(kbest::check(book), Ok(()), "a timed book is accepted");
-        assert_equal(book);
+        assert_equal(book, &mut finds);
     }
     let record = record_of(&books[2].1);
     for (_, book) in &refused {
-        assert_equal(book);
+        assert_equal(book, &mut finds);
     }
-    let (small, calls) = (assert_small_books(&mut rng, 0, 1), assert_equal_desks(&mut rng, &record));
-    let closed = assert_small_books(&mut Random(521288629), 35, 1);
-    let depots = assert_small_books(&mut Random(141421356), 0, 8) + assert_small_books(&mut Random(577215664), 35, 8);
+    let (small, calls) = (assert_small_books(&mut rng, 0, 1, &mut finds), assert_equal_desks(&mut rng, &record));
+    let closed = assert_small_books(&mut Random(521288629), 35, 1, &mut finds);
+    let depots = assert_small_books(&mut Random(141421356), 0, 8, &mut finds) + assert_small_books(&mut Random(577215664), 35, 8, &mut finds);
+    assert!(finds.iter().all(|&n| n > 1000), "refusals and answers of finding: {finds:?}");
     let tables = [("small", TABLE.to_vec()), ("typical", typical_table(&mut rng)), ("largest", largest_table(&mut rng))];
     for (_, table) in &tables {
         assert_eq!(assert_equal_books(table, kbest::BOOK_MOST).0, 0, "a timed table is accepted");
     }
     let (random, powers) = (assert_random_tables(&mut rng), assert_equal_powers());
     println!("equal results on the timed books and tables, on {small} small books, {closed} with closed choices and {depots} with depots, in {calls} calls at");
-    println!("a desk, on {random} random tables and for {powers} powers\n");
+    println!("a desk, on {random} random tables, for {powers} powers and in {} finds\n", finds.iter().sum::<usize>());
 
     println!("library time / Rust time");
     println!("{:28} {:>7} {:>7} {:>7} {:>8} {:>8} {:>8} {:>8} {:>8}", "", "check", "value", "least", "rank 1", "rank 8", "rank 64", "write 64", "accept");
@@ -664,6 +726,8 @@ fn main() {
     for (name, book) in &refused {
         refusal_ratios(&format!("{name}, {} lines", book[2]), book);
     }
+
+    find_table(&books, &refused);
 
     println!("\nat a desk, library time / Rust time");
     println!("{:28} {:>7} {:>7} {:>8} {:>8} {:>8} {:>8}", "", "open", "ask", "refused", "cancel", "commit", "held");

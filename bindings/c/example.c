@@ -1,4 +1,4 @@
-/* example FILE: lists the three best plans of a book, files the record in FILE, reads the file again and prints what it lists. */
+/* example FILE: lists the three best plans of a book, says where plans stand, files the record in FILE, reads the file again and prints what it lists. */
 #include <errno.h>
 #include <stdio.h>
 #include <string.h>
@@ -56,6 +56,32 @@ static int list(void) {
         return refused(no);
     printf("least %lld, last %lld\n", (long long)least, (long long)last);
     return 0;
+}
+
+/* Where a plan stands in the list of the k best plans of a book that is like BOOK. */
+static int print_standing(const int32_t *book, size_t k, const uint8_t plan[POSTS]) {
+    uint32_t answer;
+    int64_t value;
+    uint32_t no = kbest_find(book, WORDS, k, plan, POSTS, &answer, &value);
+    if (no != KBEST_ACCEPTED)
+        return refused(no);
+    long long figure = value;
+    if (answer == KBEST_LISTED)
+        printf("of %zu: rank %lld\n", k, figure);
+    else if (answer == KBEST_COSTS_MORE)
+        printf("of %zu: costs %lld more than the last listed\n", k, figure);
+    else
+        printf("of %zu: costs the same as the last listed, takes the higher choice at post %lld\n", k, figure);
+    return 0;
+}
+
+/* The second plan of the list, in that list and in the list of one; and the first, where the last cost is made 8, so that both cost the same. */
+static int find(void) {
+    static const uint8_t FIRST[POSTS] = {1, 0, KBEST_NOT_REACHED}, SECOND[POSTS] = {0, 0, 0};
+    int32_t tied[WORDS];
+    memcpy(tied, BOOK, sizeof BOOK);
+    tied[WORDS - 1] = 8;
+    return print_standing(BOOK, ASKED, SECOND) || print_standing(BOOK, 1, SECOND) || print_standing(tied, 1, FIRST);
 }
 
 static int file_record(const char *path) {
@@ -117,7 +143,7 @@ int main(int count, char **words) {
         return 2;
     }
     printf("check %u, of two words %u\n", kbest_check(BOOK, WORDS), kbest_check(BOOK, 2));
-    if (list() != 0 || file_record(words[1]) != 0)
+    if (list() != 0 || find() != 0 || file_record(words[1]) != 0)
         return 1;
     return print_record(words[1]);
 }

@@ -29,8 +29,8 @@ extern "C" {
 #endif
 
 /* The version of this header, as text and as a number: the first x 10,000 + the second x 100 + the third. */
-#define KBEST_VERSION_TEXT "1.6.1"
-#define KBEST_VERSION 10601
+#define KBEST_VERSION_TEXT "1.7.0"
+#define KBEST_VERSION 10700
 
 /* The version of the library that is linked, as a number. */
 uint32_t kbest_version(void);
@@ -144,6 +144,22 @@ uint32_t kbest_least(const int32_t *book, size_t words, int64_t *cost);
  * costs[j] and fills the S bytes of plans from j x S. Lower costs come first; of equal costs the lower choice at the first post where they differ. */
 uint32_t kbest_rank(const int32_t *book, size_t words, size_t k, int64_t *costs, size_t costs_room, uint8_t *plans, size_t plans_room,
                     size_t *listed);
+
+/* What kbest_find says of a plan. */
+enum {
+    KBEST_LISTED = 1,
+    KBEST_COSTS_MORE = 2,
+    KBEST_TAKES_HIGHER = 3
+};
+
+/* Where a plan stands in the list that kbest_rank gives for the same book and k: questions 1 to 14, then 28 and 17. Of any plan of the book exactly one of the
+ * three is true, and *answer says which:
+ * - KBEST_LISTED: it is listed, with rank *value, from 1, so it is plan *value - 1 of kbest_rank;
+ * - KBEST_COSTS_MORE: it is not listed and costs more than the last listed plan, by exactly *value, over D^H, at least 1;
+ * - KBEST_TAKES_HIGHER: it is not listed and costs the same as the last listed plan. *value is the first post, from 0, where the two differ: both reach it, and
+ *   the last listed plan takes the lower choice there.
+ * A list of fewer than k plans has every plan of the book, so the last two come with a list of k plans only. In a book that has no plan every array gets 28. */
+uint32_t kbest_find(const int32_t *book, size_t words, size_t k, const uint8_t *plan, size_t bytes, uint32_t *answer, int64_t *value);
 
 /* Writes the record of a book and k to the front of `record`: questions 1 to 14, then 28 and 18. *length is the record's length. */
 uint32_t kbest_write(const int32_t *book, size_t words, size_t k, uint8_t *record, size_t room, size_t *length);

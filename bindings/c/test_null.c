@@ -21,8 +21,9 @@ static uint8_t bytes[200];
 static kbest_desk desk;
 
 /* Which figures a call has. */
-enum figures { NONE, COST, ONE, TWO };
+enum figures { NONE, COST, FOUND, ONE, TWO };
 static int64_t cost = BEFORE;
+static uint32_t answer = BEFORE;
 static size_t first = BEFORE, second = BEFORE;
 
 static int calls, faults;
@@ -44,13 +45,14 @@ static int untouched(void) {
 }
 
 static void same(const char *call, enum figures has, uint32_t number, uint32_t want) {
-    int figures = cost == (has == COST ? 0 : BEFORE) && first == (has >= ONE ? 0 : BEFORE) && second == (has == TWO ? 0 : BEFORE);
+    int figures = cost == (has == COST || has == FOUND ? 0 : BEFORE) && answer == (has == FOUND ? 0 : BEFORE) && first == (has >= ONE ? 0 : BEFORE)
+        && second == (has == TWO ? 0 : BEFORE);
     calls++;
     if (number != want || !figures || !untouched()) {
-        printf("null: %s gives %u for %u, figures %lld %zu %zu\n", call, number, want, (long long)cost, first, second);
+        printf("null: %s gives %u for %u, figures %lld %u %zu %zu\n", call, number, want, (long long)cost, answer, first, second);
         faults++;
     }
-    cost = first = second = BEFORE;
+    cost = answer = first = second = BEFORE;
 }
 
 static void ask(void *empty) {
@@ -65,6 +67,10 @@ static void ask(void *empty) {
     same("rank without room", ONE, kbest_rank(BOOK, WORDS, ASKED, empty, 0, empty, 0, &first), KBEST_COSTS_ROOM);
     same("rank of nothing", ONE, kbest_rank(empty, 0, 0, empty, 0, empty, 0, &first), KBEST_TOO_FEW_WORDS);
     same("rank of no plans", ONE, kbest_rank(BOOK, WORDS, 0, empty, 0, empty, 0, &first), KBEST_COUNT);
+    same("find in no book", FOUND, kbest_find(empty, 0, ASKED, PLAN, sizeof PLAN, &answer, &cost), KBEST_TOO_FEW_WORDS);
+    same("find of no plan", FOUND, kbest_find(BOOK, WORDS, ASKED, empty, 0, &answer, &cost), KBEST_PLAN);
+    same("find of nothing", FOUND, kbest_find(empty, 0, 0, empty, 0, &answer, &cost), KBEST_TOO_FEW_WORDS);
+    same("find in no list", FOUND, kbest_find(BOOK, WORDS, 0, empty, 0, &answer, &cost), KBEST_COUNT);
     same("write of no book", ONE, kbest_write(empty, 0, ASKED, bytes, sizeof bytes, &first), KBEST_TOO_FEW_WORDS);
     same("write without room", ONE, kbest_write(BOOK, WORDS, ASKED, empty, 0, &first), KBEST_RECORD_ROOM);
     same("write of nothing", ONE, kbest_write(empty, 0, 0, empty, 0, &first), KBEST_TOO_FEW_WORDS);

@@ -1,4 +1,4 @@
-"""example.py FILE: lists the three best plans of a book, files the record in FILE, reads the file again and prints what it lists."""
+"""example.py FILE: lists the three best plans of a book, says where plans stand, files the record in FILE, reads the file again and prints what it lists."""
 
 import pathlib
 import sys
@@ -35,6 +35,24 @@ def print_list():
     print('least %d, last %d' % (kbest.least(BOOK), kbest.value(BOOK, best[-1][1])))
 
 
+def print_standing(book, k, plan):
+    found = kbest.find(book, k, plan)
+    if found.listed:
+        print('of %d: rank %d' % (k, found.value))
+    elif found.costs_more:
+        print('of %d: costs %d more than the last listed' % (k, found.value))
+    else:
+        print('of %d: costs the same as the last listed, takes the higher choice at post %d' % (k, found.value))
+
+
+def find():
+    """The second plan of the list, in that list and in the list of one; and the first, where the last cost is made 8, so that both cost the same."""
+    first, second = [1, 0, kbest.NOT_REACHED], [0, 0, 0]
+    print_standing(BOOK, ASKED, second)
+    print_standing(BOOK, 1, second)
+    print_standing(BOOK[:-1] + [8], 1, first)
+
+
 def file_record(path):
     record = kbest.write(BOOK, ASKED)
     path.write_bytes(record)
@@ -63,6 +81,7 @@ def main(arguments):
     print('check %d, of two words %d' % (check_number(BOOK), check_number(BOOK[:2])))
     try:
         print_list()
+        find()
         file_record(path)
         print_record(path)
     except kbest.Refused as refused:

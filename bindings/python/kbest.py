@@ -7,6 +7,7 @@ choice closed, so a book may have no plan. A refusal raises Refused, which has t
 loads the library: KBEST_LIBRARY names it; else it is looked for where the build puts it.
 """
 
+import collections
 import ctypes
 import functools
 import os
@@ -14,8 +15,8 @@ import pathlib
 import threading
 
 # of this module, as text and as the number that version() gives of the library
-VERSION_TEXT = '1.6.1'
-VERSION = 10601
+VERSION_TEXT = '1.7.0'
+VERSION = 10700
 
 BOOK_MOST = 4172
 POSTS_MOST = 64
@@ -26,6 +27,7 @@ TABLE_BOOK_MOST = 32775    # words of the longest book that a table can give: on
 RIDERS = 16
 NOT_REACHED = 255
 CLOSED = 200000    # the cost of a closed choice
+LISTED, COSTS_MORE, TAKES_HIGHER = 1, 2, 3    # what find says of a plan, the answer of a Standing
 
 # each call asks some of them in the order that it states, and each is put to the whole input before the next
 QUESTIONS = {
@@ -73,6 +75,29 @@ class Refused(Exception):
         return 'refused %d: %s' % (self.number, self.question)
 
 
+class Standing(collections.namedtuple('Standing', 'answer value')):
+    """Where a plan stands in a list. For any plan of the book exactly one of the three is true, and the answer says which.
+
+    LISTED: it is listed, and the value is its rank, from 1. COSTS_MORE: it is not listed and costs more than the last listed plan, by exactly the value, over
+    D^H, at least 1. TAKES_HIGHER: it is not listed and costs the same as the last listed plan; the value is the first post, from 0, where the two differ, at
+    which it takes the higher choice.
+    """
+
+    __slots__ = ()
+
+    @property
+    def listed(self):
+        return self.answer == LISTED
+
+    @property
+    def costs_more(self):
+        return self.answer == COSTS_MORE
+
+    @property
+    def takes_higher(self):
+        return self.answer == TAKES_HIGHER
+
+
 class _Desk(ctypes.Structure):
     """A desk as it lies in memory: by rider the rank held and the rank committed, 0 for none."""
 
@@ -85,7 +110,7 @@ def _library():
     lib = ctypes.CDLL(os.environ.get('KBEST_LIBRARY', str(built)))
     size, number = ctypes.c_size_t, ctypes.c_uint32
     words, data, costs = (ctypes.POINTER(t) for t in (ctypes.c_int32, ctypes.c_uint8, ctypes.c_int64))
-    figure, desk = ctypes.POINTER(size), ctypes.POINTER(_Desk)
+    figure, answer, desk = (ctypes.POINTER(t) for t in (size, number, _Desk))
     for name, result, arguments in (
         ('version', number, ()),
         ('check', number, (words, size)),
@@ -93,6 +118,7 @@ def _library():
         ('value', number, (words, size, data, size, costs)),
         ('least', number, (words, size, costs)),
         ('rank', number, (words, size, size, costs, size, data, size, figure)),
+        ('find', number, (words, size, size, data, size, answer, costs)),
         ('write', number, (words, size, size, data, size, figure)),
         ('accept', number, (data, size, figure, figure)),
         ('show', None, (data, size, size, figure, figure)),
@@ -185,6 +211,13 @@ def rank(book, k):
     _answer(_library().kbest_rank(words, length, _size(k), costs, len(costs), plans, len(plans), ctypes.byref(listed)))
     posts = sum(words[3:4 + words[1]])
     return [(costs[j], bytes(plans[j * posts:(j + 1) * posts])) for j in range(listed.value)]
+
+
+def find(book, k, plan):
+    """The Standing of a plan in the list of the k best plans, that of rank: questions 1 to 14, then 28 and 17."""
+    answer, value = ctypes.c_uint32(), ctypes.c_int64()
+    no = _library().kbest_find(*_words(book), _size(k), *_bytes(plan), ctypes.byref(answer), ctypes.byref(value))
+    return _answer(no, Standing(answer.value, value.value))
 
 
 def write(book, k):

@@ -1,8 +1,8 @@
 """Random cases of tests/kinds.py, every call of them put to the library and to the rules of the documents by enumeration: all must agree.
 
 The cases are accepted books of many shapes, with closed choices, with depots and without a plan too, books with a fault for each question, words that are none,
-plans and records with a fault, planners' tables, and counts and rooms at their limits. Each call must have given every number that it can give, so that no
-question goes untried.
+plans and records with a fault, planners' tables, and counts and rooms at their limits. Each call must have given every number that it can give, and finding
+each answer, so that no question goes untried.
 """
 
 import ctypes
@@ -20,7 +20,7 @@ import rewards
 from test_cases import NUMBERS, OF_TABLES
 
 SEED = 'bindings'
-MANY, FEW, TABLES = 18, 2, 150    # cases of each kind, of a slow one, of tables
+MANY, FEW, MOST = 18, 2, 150    # cases of each kind, of a slow one, of tables and of finding, which have one kind for many shapes
 SLOW = ('many', 'large', 'full', 'stops_many', 'stops_large', 'stops_full', 'closed_large')
 
 
@@ -53,6 +53,13 @@ def rank_into(words, k, costs, plans):
     listed = ctypes.c_size_t(99)
     no = kbest._library().kbest_rank(book, len(book), k, costs, len(costs), plans, len(plans), ctypes.byref(listed))
     return no, listed.value, list(costs), bytes(plans)
+
+
+def find_into(words, k, plan):
+    """The call itself: (number, answer, value)."""
+    book, plan, said, value = lent(ctypes.c_int32, words), lent(ctypes.c_uint8, plan), ctypes.c_uint32(99), ctypes.c_int64(99)
+    no = kbest._library().kbest_find(book, len(book), k, plan, len(plan), ctypes.byref(said), ctypes.byref(value))
+    return no, said.value, value.value
 
 
 def write_into(words, k, room):
@@ -104,6 +111,16 @@ class Compared(machine.Machine):
         same('rank', answer(kbest.rank, self.words, c.k), wanted(no, best))
         self.bytes[c.x:c.y] = plans
 
+    def find(self, c, part):
+        no, said, value = reference.find(self.words, c.k, part)
+        self.seen['find'].add(no)
+        self.seen['answers of find'].add(said)
+        same('find', find_into(self.words, c.k, part), (no, said, value))
+        got, found = answer(kbest.find, self.words, c.k, part)
+        same('find', (got, found), wanted(no, said, value))
+        if found:
+            same('the answer of find', (found.listed, found.costs_more, found.takes_higher), (said == 1, said == 2, said == 3))
+
     def write(self, c, part):
         record = bytearray(part)
         no, length = reference.write(self.words, c.k, record)
@@ -151,13 +168,13 @@ def compare(case, seen):
 def drawn():
     """Cases of every kind but pages, which are no call of the library, desks, which test_desk.py compares, and books that the reference cannot enumerate."""
     for name in kinds.KINDS:
-        if name not in ('page', 'desk', 'desk, closed', 'desk, depots', 'vast'):
-            for n in range(FEW if name in SLOW else TABLES if name == 'convert' else MANY):
+        if name not in ('page', 'desk', 'desk, closed', 'desk, depots', 'vast', 'find, vast'):
+            for n in range(FEW if name in SLOW else MOST if name in ('convert', 'find', 'find, faults') else MANY):
                 yield kinds.make(SEED, n, name)
 
 
 def main():
-    numbers = {**NUMBERS, **OF_TABLES}
+    numbers = {**NUMBERS, **OF_TABLES, 'answers of find': {0, 1, 2, 3}}    # 0 where it is refused
     seen, cases = {name: set() for name in numbers}, 0
     for case in drawn():
         compare(case, seen)

@@ -1,9 +1,11 @@
-//! example FILE: lists the three best plans of a book, files the record in FILE, reads the file again and prints what it lists.
+//! example FILE: lists the three best plans of a book, says where plans stand, files the record in FILE, reads the file again and prints what it lists.
 
 use std::error::Error;
 use std::path::{Path, PathBuf};
 use std::process::ExitCode;
 use std::{env, fs, io};
+
+use kbest::Standing;
 
 const BOOK: [i32; 22] = [
     2, 1, 7, // D, H, L
@@ -45,6 +47,25 @@ fn print_list() -> Result<(), kbest::Refused> {
     Ok(())
 }
 
+fn print_standing(book: &[i32], k: usize, plan: &[u8]) -> Result<(), kbest::Refused> {
+    match kbest::find(book, k, plan)? {
+        Standing::Listed(rank) => println!("of {k}: rank {rank}"),
+        Standing::CostsMore(amount) => println!("of {k}: costs {amount} more than the last listed"),
+        Standing::TakesHigher(post) => println!("of {k}: costs the same as the last listed, takes the higher choice at post {post}"),
+    }
+    Ok(())
+}
+
+/// The second plan of the list, in that list and in the list of one; and the first, where the last cost is made 8, so that both cost the same.
+fn find() -> Result<(), kbest::Refused> {
+    let (first, second) = ([1, 0, kbest::NOT_REACHED], [0; POSTS]);
+    let mut tied = BOOK;
+    tied[BOOK.len() - 1] = 8;
+    print_standing(&BOOK, ASKED, &second)?;
+    print_standing(&BOOK, 1, &second)?;
+    print_standing(&tied, 1, &first)
+}
+
 fn named(path: &Path, error: io::Error) -> String {
     format!("{}: {error}", path.display())
 }
@@ -80,6 +101,7 @@ fn print_record(path: &Path) -> Result<(), Box<dyn Error>> {
 fn run(path: &Path) -> Result<(), Box<dyn Error>> {
     println!("check {}, of two words {}", check_number(&BOOK), check_number(&BOOK[..2]));
     print_list()?;
+    find()?;
     file_record(path)?;
     print_record(path)
 }

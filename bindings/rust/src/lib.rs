@@ -10,9 +10,9 @@ use std::fmt;
 use std::num::NonZeroU32;
 
 /// The version of this wrapper as text.
-pub const VERSION_TEXT: &str = "1.6.1";
+pub const VERSION_TEXT: &str = "1.7.0";
 /// The same as a number: the first × 10,000 + the second × 100 + the third.
-pub const VERSION: u32 = 10601;
+pub const VERSION: u32 = 10700;
 
 /// The longest book in words.
 pub const BOOK_MOST: usize = 4172;
@@ -70,6 +70,10 @@ pub const QUESTIONS: [&str; 28] = [
 mod c {
     use super::Desk;
 
+    /// Two of the three answers of `kbest_find`; what is left is the third.
+    pub const LISTED: u32 = 1;
+    pub const COSTS_MORE: u32 = 2;
+
     #[link(name = "kbest_c", kind = "static")]
     extern "C" {
         pub fn kbest_version() -> u32;
@@ -86,6 +90,15 @@ mod c {
             plans: *mut u8,
             plans_room: usize,
             listed: *mut usize,
+        ) -> u32;
+        pub fn kbest_find(
+            book: *const i32,
+            words: usize,
+            k: usize,
+            plan: *const u8,
+            bytes: usize,
+            answer: *mut u32,
+            value: *mut i64,
         ) -> u32;
         pub fn kbest_write(book: *const i32, words: usize, k: usize, record: *mut u8, room: usize, length: *mut usize) -> u32;
         pub fn kbest_accept(record: *const u8, bytes: usize, posts: *mut usize, listed: *mut usize) -> u32;
@@ -124,6 +137,17 @@ impl fmt::Display for Refused {
 }
 
 impl std::error::Error for Refused {}
+
+/// Where a plan stands in a list. For any plan of the book exactly one of the three is true.
+#[derive(Clone, Copy, Debug, PartialEq, Eq)]
+pub enum Standing {
+    /// It is listed: its rank, from 1.
+    Listed(usize),
+    /// It is not listed and costs more than the last listed plan: by how much exactly, over D^H, at least 1.
+    CostsMore(i64),
+    /// It is not listed and costs the same as the last listed plan: the first post, from 0, where the two differ, at which it takes the higher choice.
+    TakesHigher(usize),
+}
 
 /// What a record carries.
 #[derive(Clone, Copy, Debug, PartialEq, Eq)]
@@ -201,6 +225,19 @@ pub fn rank(book: &[i32], k: usize, costs: &mut [i64], plans: &mut [u8]) -> Resu
         )
     };
     answer(no, listed)
+}
+
+/// Where a plan stands in the list of the k best plans, that of `rank`: questions 1 to 14, then 28 and 17.
+pub fn find(book: &[i32], k: usize, plan: &[u8]) -> Result<Standing, Refused> {
+    let (mut said, mut value) = (0, 0);
+    let no = unsafe { c::kbest_find(book.as_ptr(), book.len(), k, plan.as_ptr(), plan.len(), &mut said, &mut value) };
+    // a rank or a post is from 0 to 64; what is made here of a refusal is dropped
+    let standing = match said {
+        c::LISTED => Standing::Listed(value as usize),
+        c::COSTS_MORE => Standing::CostsMore(value),
+        _ => Standing::TakesHigher(value as usize),
+    };
+    answer(no, standing)
 }
 
 /// Writes the record of a book and k to the front of the slice and gives its length: questions 1 to 14, then 28 and 18.

@@ -3,7 +3,7 @@ ghost use mathlib.Core.Path.{_≡_};
 ghost use lib.ListN.{length, take, drop};
 ghost use Rattle.model.specs.Questions.{bookNumber};
 ghost use Rattle.model.specs.Record.{acceptNumber};
-ghost use Rattle.model.specs.Calls.{powerOf, valueNumber, valueCost, leastNumber, leastCost, roomOf, rankNumber, rankCount, rankCosts, rankPlans, writeNumber, writeLength, writeRecord, acceptStates, acceptCount, shown};
+ghost use Rattle.model.specs.Calls.{powerOf, valueNumber, valueCost, leastNumber, leastCost, roomOf, rankNumber, rankCount, rankCosts, rankPlans, writeNumber, writeLength, writeRecord, acceptStates, acceptCount, shown, findNumber, findAnswer, findValue};
 ghost use Rattle.reward_table.specs.Convert.{convertNumber, convertLength, convertSlice};
 ghost use Rattle.reservation.specs.Reservations.{heldBy, committedBy, openFor, reply, asking, committing, cancelling, opening};
 ghost use Rattle.kbest_c.specs.Part.{shownOffset, shownLength};
@@ -11,7 +11,7 @@ ghost use Rattle.kbest_c.specs.Version.{version};
 use reservation::Desk;
 
 // The version in the file VERSION: its first number × 10,000 + its second × 100 + its third.
-const VERSION: u32 = 10601;
+const VERSION: u32 = 10700;
 
 // The version of the library that is linked.
 #[no_mangle]
@@ -73,6 +73,24 @@ pub extern "C" fn kbest_rank(
     let a = rank::rank(book, k, costs, plans);
     *listed = a.k;
     a.no
+}
+
+// The number of finding a plan in the list of a book and k; which of the three answers it gets, and its rank, amount or state, both 0 where it is refused.
+#[no_mangle]
+pub extern "C" fn kbest_find(
+    book: &[i32],
+    k: usize,
+    plan: &[u8],
+    answer: &mut u32,
+    value: &mut i64,
+) -> u32
+    ensures { λ r. ⌜ (r ≡ findNumber (now (book .entry)) k (now (plan .entry))) × (now (answer .exit) ≡ findAnswer (now (book .entry)) k (now (plan .entry))) × (now (value .exit) ≡ findValue (now (book .entry)) k (now (plan .entry))) ⌝ }
+{
+    let f = find::find(book, k, plan);
+    let v = f.value;
+    *answer = f.answer;
+    *value = v;
+    f.no
 }
 
 // The number of writing the record of a book and k; its length. The record goes to the front of the slice.
