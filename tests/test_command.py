@@ -2,7 +2,10 @@
 """Tests of ./kbest with the programs in target/bin, which must be built; the first run with a toolchain that is acted. Run: python3 tests/test_command.py"""
 
 import contextlib
+import decimal
 import fcntl
+import fractions
+import math
 import os
 import pty
 import random
@@ -40,6 +43,9 @@ A, A_3 = book.text_of_words(tours.book_a()).encode(), ref.record(tours.book_a(),
 TABLE = table.text_of_words(BY_HAND).encode()
 REWARDS = b'4 of 4, scale 4\n1 41 0 0 0 0 0\n2 18 0 0 1 0 0\n3 10 1 - 0 0 0\n4 -36 1 - 1 - 0\n'
 OLD = b'as it was\n'
+# two plans each: of cost 43 and 48 over 3; and of 1,400 and 1,401 over 100
+THIRDS = [3, 1, 7, 1, 2, 2, 1, 1, 2, 0, 1, 1, 0, 0, 0, 10, 1, 1, 12, 3, 4, 9]
+HUNDREDTHS = [100, 1, 7, 1, 2, 2, 1, 1, 1, 0, 2, 0, 1, 0, 0, 10, 100, 10, 99, 1, 4, 5]
 
 
 def run(*words, data=b'', script=KBEST, **more):
@@ -74,10 +80,12 @@ def told(words, k, plan):
         return b'Your plan is rank %d on the list.\n' % value
     found, scale = ref.Book(words), words[0] ** words[1]
     if answer == 2:
-        amount = '%d/%d' % (value, scale)
-        said = amount + ' seconds more' if value % scale else '%d second%s more%s' % (
-            value // scale, 's' * (value != scale), ' (%s)' % amount if scale > 1 else '')
-        return ('Your plan is not on the list: it costs %s than the last plan listed, rank %d.\n' % (said, k)).encode()
+        amount = fractions.Fraction(value, scale)
+        nearest = decimal.Decimal(math.floor(amount * 10 + fractions.Fraction(1, 2))) / 10
+        said = ('1 second' if amount == 1 else '%d seconds' % amount if amount == int(amount) else '%.1f seconds' % nearest if amount == nearest
+                else 'about %.1f seconds' % nearest if nearest else 'less than 0.1 seconds')
+        exact = ' (%d/%d)' % (value, scale) if scale > 1 else ''
+        return ('Your plan is not on the list: it costs %s more%s than the last plan listed, rank %d.\n' % (said, exact, k)).encode()
     name = 'depot' if found.stage[value] == found.stages else 'choice'
     return ('Your plan is not on the list: it costs the same as the last plan listed, rank %d, and at post %d, the first where they differ, '
             'it takes %s %d and that plan a lower one.\n' % (k, value, name, plan[value])).encode()
@@ -274,9 +282,10 @@ class Find(Folder):
 
     def test_amounts(self):
         last = b' than the last plan listed, rank %d.\n'
-        for words, k, plan, amount in ((tours.book_a(), 1, '0 0 0', b'1/2 seconds more'), (tours.book_a(closing=10), 1, '0 0 0', b'1 second more (2/2)'),
-                                       (tours.book_a(cost=-10), 1, '1 0 -', b'39/2 seconds more'), (DEPOTS, 4, '1 0 -', b'4 seconds more (16/4)'),
-                                       (tours.book_c(), 1, '0 0 - 0', b'1 second more'), (tours.book_c(), 2, '0 1 - 0', b'3 seconds more')):
+        for words, k, plan, amount in ((tours.book_a(), 1, '0 0 0', b'0.5 seconds more (1/2)'), (tours.book_a(closing=10), 1, '0 0 0', b'1 second more (2/2)'),
+                                       (tours.book_a(cost=-10), 1, '1 0 -', b'19.5 seconds more (39/2)'), (DEPOTS, 4, '1 0 -', b'4 seconds more (16/4)'),
+                                       (tours.book_c(), 1, '0 0 - 0', b'1 second more'), (tours.book_c(), 2, '0 1 - 0', b'3 seconds more'),
+                                       (THIRDS, 1, '1 0 -', b'about 1.7 seconds more (5/3)'), (HUNDREDTHS, 1, '1 0 0', b'less than 0.1 seconds more (1/100)')):
             self.says(words, k, plan, self.LAST + amount + last % k)
 
     def test_ties(self):
