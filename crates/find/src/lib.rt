@@ -3,9 +3,10 @@ ghost use mathlib.Core.Path.{_≡_};
 ghost use Prim.Native.Nat.{_+_, _*_, _≤_};
 ghost use lib.IntN.{pos, natAbs};
 ghost use lib.ListN.{length, take, drop};
-ghost use Rattle.model.specs.Standing.{placeIn, besideLast, answerNumber, answerValue};
+ghost use Rattle.model.specs.Standing.{placeIn, besideLast};
 ghost use Rattle.model.specs.Calls.{findNumber, findAnswer, findValue};
 ghost use Rattle.find.specs.Parts.{parts};
+ghost use Rattle.find.specs.Tells.{Tells};
 
 // The number of the first question that is answered no, or 0; which of the three answers: 1, the plan is listed, 2, it costs more than the last listed, 3, it
 // costs the same and takes the higher action; and the rank, the amount over D^H or the state. Both are 0 where the call is refused.
@@ -37,10 +38,10 @@ fn place_in(plans: &[u8], n: usize, plan: &[u8]) -> usize
     n
 }
 
-// Of a policy that is not listed, beside the last one that is: its bytes begin at index `at`.
+// Of a policy that is not listed, beside the last one that is: its bytes begin at index `at`, and it costs `last`.
 fn beside_last(plans: &[u8], at: usize, last: i64, plan: &[u8], cost: i64) -> Found
     requires { ⌜ (at + length (now plan) ≤ length (now plans)) × (natAbs last ≤ 4000000000000000000) × (natAbs cost ≤ 4000000000000000000) ⌝ }
-    ensures { λ r. ⌜ (r .no ≡ 0) × (r .answer ≡ answerNumber (besideLast (take (length (now (plan .entry))) (drop at (now (plans .entry)))) last (now (plan .entry)) cost)) × (r .value ≡ answerValue (besideLast (take (length (now (plan .entry))) (drop at (now (plans .entry)))) last (now (plan .entry)) cost)) ⌝ }
+    ensures { λ r. ⌜ Tells (besideLast (take (length (now (plan .entry))) (drop at (now (plans .entry)))) last (now (plan .entry)) cost) r ⌝ }
 {
     if last < cost {
         return Found {
@@ -57,6 +58,7 @@ fn beside_last(plans: &[u8], at: usize, last: i64, plan: &[u8], cost: i64) -> Fo
     }
 }
 
+// A refusal has neither answer nor value.
 fn refused(no: u32) -> Found
     ensures { λ r. ⌜ (r .no ≡ no) × (r .answer ≡ 0) × (r .value ≡ pos 0) ⌝ }
 {

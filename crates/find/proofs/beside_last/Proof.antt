@@ -47,7 +47,11 @@ returns : tie.Need-returns
 returns c =
     let s = c .before .before .before in
     let e = more s (rw (toZ-ofZ (s .fits .cost), toZ-ofZ (s .fits .last)) at (c .if1 .taken)) in
-    (refl, sym (ap answerNumber e), simp (toZ-ofZ (s .fits .cost), toZ-ofZ (s .fits .last), toZ-ofZ (difference s)) (sym (ap answerValue e)))
+    record {
+      accepted = refl;
+      number = sym (ap answerNumber e);
+      figure = simp (toZ-ofZ (s .fits .cost), toZ-ofZ (s .fits .last), toZ-ofZ (difference s)) (sym (ap answerValue e));
+    }
 
 first-difference-requires : tie.Need-first-difference-requires
 first-difference-requires c κs = search needs
@@ -76,7 +80,7 @@ returns-2 c =
     let front = take (length (s .args .plan .now)) (drop (s .args .at) (s .args .plans .now)) in
     let whole = take-all (length (s .args .plan .now)) (s .args .plan .now) (omega arith) in
     let first = ap pos (c .first-difference .ensures .0 ∙ ap (firstDifference front) whole) in
-    (refl, sym (ap answerNumber e), toZ-ofZ (state-fits c) ∙ state c ∙ first ∙ sym (ap answerValue e))
+    record { accepted = refl; number = sym (ap answerNumber e); figure = toZ-ofZ (state-fits c) ∙ state c ∙ first ∙ sym (ap answerValue e) }
 
 add-t11 : tie.Need-add-t11
 add-t11 c = state-fits c

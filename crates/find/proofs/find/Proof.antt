@@ -233,9 +233,9 @@ returns-5 c =
     let given = ap₂ (λ (x y : ℤ). besideLast (take (length bs) (drop ((g .n - 1) * length bs) (g .plans))) x bs y) (read e (last e) (last-size e)) (read e (p e .judge .result .cost) (cost-size e) ∙ cost-is e) in
     let r = c .beside-last .ensures in
     let n = number e in (
-      r .0 ∙ n,
-      gives (sym n) _ (r .1 ∙ ap answerNumber (given ∙ sym says)),
-      gives (sym n) _ (r .2 ∙ ap answerValue (given ∙ sym says)),
+      r .accepted ∙ n,
+      gives (sym n) _ (r .number ∙ ap answerNumber (given ∙ sym says)),
+      gives (sym n) _ (r .figure ∙ ap answerValue (given ∙ sym says)),
     )
 
 pub find-spec : {M : Type 1} → statement M
