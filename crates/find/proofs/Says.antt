@@ -1,15 +1,14 @@
 -- The answer by the list that stands in arrays.
 -- Assumes nothing.
-use mathlib.Core.Path.{_≡_, sym, ap, ap₂, _∙_}
-use mathlib.Core.List.{List, [], _∷_}
-use Prim.Native.Nat.{ℕ, zero, suc, _+_, _-_, _*_, _≤_, _<_}
+use mathlib.Core.Path.{_≡_, sym, ap, _∙_}
+use mathlib.Core.List.{List, []}
+use Prim.Native.Nat.{ℕ, suc, _+_, _-_, _*_, _≤_, _<_}
 use native.Mathlib.Nat.{suc-mul}
 use native.Mathlib.Omega.{arith}
 use borrow.Author.Tests.{lt-ltb, le-ltb}
 use lib.Dec.{T}
 use lib.IntN.{pos, natAbs}
-use lib.ListN.{length, take, drop, getD, drop-of-length-le}
-use lib.Seq.{drop-cons}
+use lib.ListN.{length, take, drop, getD}
 use Rattle.model.specs.Model.{Words}
 use Rattle.model.specs.Questions.{bookNumber}
 use Rattle.model.specs.Policy.{Policy, isPolicy}
@@ -17,12 +16,12 @@ use Rattle.model.specs.Path.{policyCost}
 use Rattle.model.specs.Order.{ranking}
 use Rattle.model.specs.Standing.{isRank, placeIn, lastOf, besideLast, standing}
 use Rattle.laws.specs.Sorting.{at-in}
-use Rattle.laws.specs.Entries.{some-at}
+use Rattle.laws.specs.Entries.{some-at, getD-at}
 use Rattle.accepted.specs.Demands.{policy-bytes, in-list, cost-fits}
 use Rattle.record.specs.declared.Listing.{Listing}
 use Rattle.record.specs.Listed.{Listed}
-use Rattle.record.specs.Entries.{getD-at, entry-cost, entry-bytes}
-use Rattle.find.specs.Parts.{parts}
+use Rattle.record.specs.Parts.{parts}
+use Rattle.record.specs.Entries.{entry-cost, bytes-at, parts-are}
 
 module _ (ws : Words) (ok : bookNumber ws ≡ 0) (k : ℕ) (l : Listing) (h : Listed ws k l) (bs : Policy) (t : T (isPolicy ws bs)) where
   -- a listed policy has as many bytes as the plan
@@ -33,29 +32,22 @@ module _ (ws : Words) (ok : bookNumber ws ≡ 0) (k : ℕ) (l : Listing) (h : Li
   plans-fit = rw (← states) (h .held .plans-long)
 
   -- entry j, by its bytes and by its cost
-  bytes-at : (j : ℕ) → j < l .n → take (length bs) (drop (j * length bs) (l .plans)) ≡ getD (ranking ws k) j []
-  bytes-at j i =
-      let e = some-at (ranking ws k) j (omega (arith, h .count)) in
-      rw (← states) (entry-bytes ws ok k l h j (e .0) (e .1)) ∙ sym (getD-at (ranking ws k) j [] (e .0) (e .1))
+  bytes-here : (j : ℕ) → j < l .n → take (length bs) (drop (j * length bs) (l .plans)) ≡ getD (ranking ws k) j []
+  bytes-here j i = rw (← states) (bytes-at ws ok k l h j i)
 
   cost-at : (j : ℕ) → j < l .n → getD (l .costs) j (pos 0) ≡ policyCost ws (getD (ranking ws k) j [])
   cost-at j i =
       let e = some-at (ranking ws k) j (omega (arith, h .count)) in
       entry-cost ws ok k l h j (e .0) (e .1) i ∙ ap (policyCost ws) (sym (getD-at (ranking ws k) j [] (e .0) (e .1)))
 
-  parts-from : (m j : ℕ) → j + m ≡ l .n → parts (l .plans) (length bs) j m ≡ drop j (ranking ws k)
-  parts-from zero j e = sym (drop-of-length-le (ranking ws k) {i = j} (omega (arith, h .count)))
-  parts-from (suc m) j e =
-      ap₂ _∷_ (bytes-at j (omega arith)) (parts-from m (suc j) (omega arith)) ∙ sym (drop-cons (ranking ws k) j [] (omega (arith, h .count)))
-
-  -- they are the list
-  pub parts-are : parts (l .plans) (length bs) 0 (l .n) ≡ ranking ws k
-  parts-are = parts-from (l .n) 0 (omega arith)
+  -- the parts are the list
+  parts-here : parts (l .plans) (length bs) 0 (l .n) ≡ ranking ws k
+  parts-here = rw (← states) (parts-are ws ok k l h)
 
   pub rank-says : (j : ℕ) → j ≡ placeIn (parts (l .plans) (length bs) 0 (l .n)) bs → j < l .n → standing ws k bs ≡ isRank (suc j)
   unfolding standing
   rank-says j e i =
-      let p : placeIn (ranking ws k) bs ≡ j = ap (λ (ps : List Policy). placeIn ps bs) (sym parts-are) ∙ sym e in
+      let p : placeIn (ranking ws k) bs ≡ j = ap (λ (ps : List Policy). placeIn ps bs) (sym parts-here) ∙ sym e in
       rw (p, lt-ltb j (length (ranking ws k)) (omega (arith, h .count)))
 
   -- the last entry
@@ -82,5 +74,5 @@ module _ (ws : Words) (ok : bookNumber ws ≡ 0) (k : ℕ) (l : Listing) (h : Li
     unfolding standing
     beside-says i =
         let e : length (ranking ws k) ≤ placeIn (ranking ws k) bs
-        = omega (arith, h .count, i, ap (λ (ps : List Policy). placeIn ps bs) parts-are) in
-        rw (le-ltb (placeIn (ranking ws k) bs) (length (ranking ws k)) e, last-is, bytes-at (l .n - 1) (omega arith), cost-at (l .n - 1) (omega arith))
+        = omega (arith, h .count, i, ap (λ (ps : List Policy). placeIn ps bs) parts-here) in
+        rw (le-ltb (placeIn (ranking ws k) bs) (length (ranking ws k)) e, last-is, bytes-here (l .n - 1) (omega arith), cost-at (l .n - 1) (omega arith))

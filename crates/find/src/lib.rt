@@ -5,7 +5,7 @@ ghost use lib.IntN.{pos, natAbs};
 ghost use lib.ListN.{length, take, drop};
 ghost use Rattle.model.specs.Standing.{placeIn, besideLast};
 ghost use Rattle.model.specs.Calls.{findNumber, findAnswer, findValue};
-ghost use Rattle.find.specs.Parts.{parts};
+ghost use Rattle.record.specs.Parts.{parts};
 ghost use Rattle.find.specs.Tells.{Tells};
 
 // The number of the first question that is answered no, or 0; which of the three answers: 1, the plan is listed, 2, it costs more than the last listed, 3, it

@@ -10,10 +10,10 @@ use Prim.Native.Nat.{ℕ, zero, suc, _+_, _≤_, _<_}
 use native.Mathlib.Decide.{decLt}
 use native.Mathlib.Omega.{arith}
 use lib.Dec.{T}
-use lib.ListN.{length, getElem?, take}
+use lib.ListN.{length, getElem?, getD, take}
 use Rattle.model.specs.Lists.{bit, count, sorted}
 use Rattle.laws.specs.Members.{In, Apart}
-use Rattle.laws.specs.Sorting.{Strict, Total, listed, listed-after}
+use Rattle.laws.specs.Sorting.{Strict, Total, at-in, listed, listed-after}
 
 module _ {A : Type 0} where
   -- an element is an entry
@@ -27,6 +27,12 @@ module _ {A : Type 0} where
   some-at [] j h = absurd (omega arith)
   some-at (x ∷ xs) zero h = (x, refl)
   some-at (x ∷ xs) (suc j) h = some-at xs j (omega arith)
+
+  -- an entry, read with a default
+  pub getD-at : (s : List A) (j : ℕ) (d x : A) → getElem? s j ≡ some x → getD s j d ≡ x
+  getD-at [] j d x e = absurd (at-in [] j x e)
+  getD-at (y ∷ ys) zero d x e = cc
+  getD-at (y ∷ ys) (suc j) d x e = getD-at ys j d x e
 
   -- the first one of a list, by its entry
   pub take-one : (s : List A) (x : A) → getElem? (take 1 s) 0 ≡ some x → take 1 s ≡ x ∷ []

@@ -14,6 +14,7 @@ use Rattle.model.specs.Policy.{Policy, isPolicy}
 use Rattle.model.specs.Path.{policyCost}
 use Rattle.model.specs.Order.{ranking, rankingCosts}
 use Rattle.model.specs.Standing.{answerNumber, answerValue, standing}
+use Rattle.model.specs.Limit.{Limit, limitAllowed, keptNumber, keptRank, firstKept}
 use Rattle.model.specs.Record.{recordBytes, carriedCount, carriedBook, planStart, planQuestions, askedNumber, acceptNumber}
 
 -- what goes with the number 0, and what with any other
@@ -120,6 +121,21 @@ findAnswer ws k bs = ifAccepted (findNumber ws k bs) (answerNumber (standing ws 
 
 unfoldable pub findValue : Words → ℕ → Policy → ℤ
 findValue ws k bs = ifAccepted (findNumber ws k bs) (answerValue (standing ws k bs)) (pos 0)
+
+-- ---- limit, request 2.10: "Refused: 29, marks of the wrong length or value, or m out of range, after 14 and 28."
+
+abbrev pub limitQuestions : Words → List (Question Limit)
+limitQuestions ws = record { number = 29; asks = limitAllowed ws } ∷ []
+
+unfoldable pub limitNumber : Words → ℕ → Limit → ℕ
+limitNumber ws k limit = andThen (askedNumber ws k) (firstNo (limitQuestions ws) limit)
+
+-- 0 where it is refused, else which of the three answers; and the rank
+unfoldable pub limitAnswer : Words → ℕ → Limit → ℕ
+limitAnswer ws k limit = ifAccepted (limitNumber ws k limit) (keptNumber (firstKept ws k limit)) 0
+
+unfoldable pub limitRank : Words → ℕ → Limit → ℕ
+limitRank ws k limit = ifAccepted (limitNumber ws k limit) (keptRank (firstKept ws k limit)) 0
 
 -- ---- power: "D^e for every D from 1 to 100 and e from 0 to 8"; "a lookup for any other D or e gives 0"
 

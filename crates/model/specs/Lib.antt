@@ -9,4 +9,5 @@ pub mod Bytes
 pub mod Record
 pub mod Page
 pub mod Standing
+pub mod Limit
 pub mod Calls

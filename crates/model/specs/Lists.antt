@@ -64,6 +64,11 @@ module _ {A : Type 0} where
   every test [] = true
   every test (x ∷ xs) = test x && every test xs
 
+  -- how many elements stand before the first that passes the test: all of them where none does
+  abbrev pub firstWhere : (A → Bool) → List A → ℕ
+  firstWhere test [] = 0
+  firstWhere test (x ∷ xs) = cond (test x) 0 (suc (firstWhere test xs))
+
   -- how many elements pass the test
   abbrev pub count : (A → Bool) → List A → ℕ
   count test [] = 0

@@ -15,7 +15,8 @@ use Rattle.model.specs.Path.{policyCost}
 use Rattle.model.specs.Order.{ranking}
 use Rattle.model.specs.Record.{recordBytes, carriedK, carriedBook, askedNumber, acceptNumber}
 use Rattle.model.specs.Standing.{Answer, isRank, costsMore, takesHigher, answerValue, standing}
-use Rattle.model.specs.Calls.{over, policyQuestions}
+use Rattle.model.specs.Limit.{Limit, Kept, keptAt, noneListed, noneInBook, firstKept}
+use Rattle.model.specs.Calls.{over, policyQuestions, limitQuestions}
 
 -- a number in base ten, of at most f digits
 abbrev pub digits : ℕ → ℕ → List ℕ
@@ -121,6 +122,34 @@ answerLine a = answerWord a ++ signedDecimal (answerValue a) ++ (10 ∷ [])
 -- a plan, K and a book in, one line out
 unfoldable pub planLine : List ℕ → List ℕ
 planLine input = orRefused (planNumber input) (answerLine (standing (inputBook (afterPlan input)) (inputCount (afterPlan input)) (inputPlan input)))
+
+-- ---- request 2.10: m in one byte, how many marks there are in two, the marks, then K and a book as above
+
+unfoldable pub markCount : List ℕ → ℕ
+markCount input = fromBytes (take 2 (drop 1 input))
+
+unfoldable pub inputLimit : List ℕ → Limit
+inputLimit input = record { marks = take (markCount input) (drop 3 input); most = getD input 0 0 }
+
+unfoldable pub afterMarks : List ℕ → List ℕ
+afterMarks input = drop (3 + markCount input) input
+
+-- 1 where no K and no whole words follow the marks, else 1 to 14 and 28, then 29
+unfoldable pub marksNumber : List ℕ → ℕ
+marksNumber input = andThen (inputNumber (afterMarks input)) (firstNo (limitQuestions (inputBook (afterMarks input))) (inputLimit input))
+
+-- `rank ` and the rank, `none in the list`, `none in the book`
+abbrev pub keptText : Kept → List ℕ
+keptText (keptAt j) = (114 ∷ 97 ∷ 110 ∷ 107 ∷ 32 ∷ []) ++ decimal j
+keptText noneListed = 110 ∷ 111 ∷ 110 ∷ 101 ∷ 32 ∷ 105 ∷ 110 ∷ 32 ∷ 116 ∷ 104 ∷ 101 ∷ 32 ∷ 108 ∷ 105 ∷ 115 ∷ 116 ∷ []
+keptText noneInBook = 110 ∷ 111 ∷ 110 ∷ 101 ∷ 32 ∷ 105 ∷ 110 ∷ 32 ∷ 116 ∷ 104 ∷ 101 ∷ 32 ∷ 98 ∷ 111 ∷ 111 ∷ 107 ∷ []
+
+unfoldable pub keptLine : Kept → List ℕ
+keptLine a = keptText a ++ (10 ∷ [])
+
+-- m, marks, K and a book in, one line out
+unfoldable pub limitLine : List ℕ → List ℕ
+limitLine input = orRefused (marksNumber input) (keptLine (firstKept (inputBook (afterMarks input)) (inputCount (afterMarks input)) (inputLimit input)))
 
 -- ---- a text at the front of a lent slice that has `most` places or more; a shorter one gets nothing
 

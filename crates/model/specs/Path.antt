@@ -31,6 +31,11 @@ abbrev pub pathCost : Path → ℤ
 pathCost [] = pos 0
 pathCost (s ∷ ss) = s .cost +ℤ pathCost ss
 
+-- the sum over the steps of a path of a number for each state: every action taken counts, the last one too, at stage H or where the path stops
+abbrev pub pathSum : (ℕ → ℕ) → Path → ℕ
+pathSum here [] = 0
+pathSum here (s ∷ ss) = here (s .state) + pathSum here ss
+
 -- "A day may stop after a choice before stage H whose weights add to less than D: its weight takes the missing part there and D for each later stage
 -- before H": the rest of a path that stops after action a of state p, where m later stages are before H; none where the weights add to D
 abbrev pub stopsAfter : ℕ → ℕ → ℕ → Action → List Path
@@ -59,6 +64,10 @@ totalWeight (path ∷ paths) = pathWeight path + totalWeight paths
 -- the byte of a policy at state p, and the action that it takes there
 abbrev pub byteAt : Policy → ℕ → ℕ
 byteAt bs p = getD bs p 255
+
+-- the number of the action that a policy takes at state p, where `number q c` is that of action c of state q
+abbrev pub ofTaken : (ℕ → ℕ → ℕ) → Policy → ℕ → ℕ
+ofTaken number bs p = number p (byteAt bs p)
 
 unfoldable pub taken : Words → Policy → ℕ → Action
 taken ws bs p = action ws p (byteAt bs p)

@@ -2,12 +2,12 @@
 -- Assumes nothing.
 use Prim.Native.Nat.{ℕ, suc, _-_}
 use mathlib.Core.Bool.{cond}
-use mathlib.Core.List.{List, [], _∷_}
+use mathlib.Core.List.{List, []}
 use lib.IntN.{ℤ, pos, _-ℤ_}
 use lib.Signed.{ltZ}
 use lib.Dec.{ltb}
 use lib.ListN.{length, getD}
-use Rattle.model.specs.Lists.{same}
+use Rattle.model.specs.Lists.{same, firstWhere}
 use Rattle.model.specs.Model.{Words}
 use Rattle.model.specs.Policy.{Policy}
 use Rattle.model.specs.Path.{policyCost}
@@ -21,8 +21,7 @@ pub data Answer : Type 0 where
 
 -- how many entries of a list stand above a policy: all of them where it is not there
 abbrev pub placeIn : List Policy → Policy → ℕ
-placeIn [] bs = 0
-placeIn (p ∷ ps) bs = cond (same p bs) 0 (suc (placeIn ps bs))
+placeIn ps bs = firstWhere (λ (p : Policy). same p bs) ps
 
 -- "the last listed"
 abbrev pub lastOf : List Policy → Policy
@@ -32,6 +31,7 @@ lastOf ps = getD ps (length ps - 1) []
 abbrev pub besideLast : Policy → ℤ → Policy → ℤ → Answer
 besideLast last lastCost bs cost = cond (ltZ lastCost cost) (costsMore (cost -ℤ lastCost)) (takesHigher (firstDifference last bs))
 
+-- the rank of a listed policy is one more than how many stand above it; of any other it is said why the last listed comes before it
 unfoldable pub standing : Words → ℕ → Policy → Answer
 standing ws k bs =
     cond (ltb (placeIn (ranking ws k) bs) (length (ranking ws k))) (isRank (suc (placeIn (ranking ws k) bs)))

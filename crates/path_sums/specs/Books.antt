@@ -11,16 +11,12 @@ use lib.IntN.{natAbs}
 use Rattle.model.specs.Model.{Words, scale, horizon, togo, action}
 use Rattle.model.specs.Questions.{largestCost, bookNumber}
 use Rattle.model.specs.Policy.{Policy, isPolicy}
-use Rattle.model.specs.Path.{Path, pathCost, byteAt, taken, paths}
+use Rattle.model.specs.Path.{Path, pathCost, pathSum, byteAt, ofTaken, taken, paths}
 use Rattle.laws.specs.Members.{In}
 use Rattle.accepted.specs.Facts.{accepted}
 use Rattle.accepted.specs.Shape.{shape, togo-start, cost-bound}
 use Rattle.accepted.specs.Demands.{policy-takes, most-fits}
-use Rattle.path_sums.specs.Most.{pathSum, mostOf, most-within, mostNext, mostToGo, to-go-bound, by-stage, path-has, most-paths, cost-most}
-
--- the number of the action that a policy takes at state p, where `number q c` is that of action c of state q
-abbrev pub ofTaken : (ℕ → ℕ → ℕ) → Policy → ℕ → ℕ
-ofTaken number bs p = number p (byteAt bs p)
+use Rattle.path_sums.specs.Most.{mostOf, most-within, mostNext, mostToGo, to-go-bound, by-stage, path-has, most-paths, cost-most}
 
 -- the most over the paths of a policy of the sum of the numbers of the actions taken
 unfoldable pub mostOver : Words → (ℕ → ℕ → ℕ) → Policy → ℕ

@@ -1,4 +1,4 @@
--- The sum over the steps of a path of a number for each state (of the action taken there), and the most over paths. The most is that of a recursion
+-- The most over paths of the sum over a path's steps of a number for each state (of the action taken there). The most is that of a recursion
 -- from the last states to the first, where each state has a path: that is so where D is at least 1. For any actions.
 -- Assumes nothing.
 use mathlib.Core.Path.{_≡_, refl, ap, _∙_}
@@ -11,7 +11,7 @@ use borrow.Author.Tests.{lt-ltb}
 use lib.IntN.{ℤ, pos, natAbs, _+ℤ_}
 use Rattle.model.specs.Lists.{forEach}
 use Rattle.model.specs.Model.{Transition, Action}
-use Rattle.model.specs.Path.{Path, pathCost, stopsAfter, pathsFrom}
+use Rattle.model.specs.Path.{Path, pathCost, pathSum, stopsAfter, pathsFrom}
 use Rattle.laws.specs.Int.{abs-add}
 use Rattle.laws.specs.Members.{In, in-one, ++-in, forEach-in, map-in, every-imp, AtNexts}
 use Rattle.laws.specs.Paths.{stop, stop-ends, stepBy, pathsBy, Begins, begins}
@@ -19,26 +19,21 @@ use Rattle.laws.specs.Paths.{stop, stop-ends, stepBy, pathsBy, Begins, begins}
 -- ---- over paths
 
 module _ (here : ℕ → ℕ) where
-  -- the sum over the steps of a path: every action taken counts, the last one too, at stage H or where the path stops
-  abbrev pub pathSum : Path → ℕ
-  pathSum [] = 0
-  pathSum (s ∷ ss) = here (s .state) + pathSum ss
-
   -- the most over paths, 0 where there is none
   abbrev pub mostOf : List Path → ℕ
   mostOf [] = 0
-  mostOf (x ∷ xs) = max (pathSum x) (mostOf xs)
+  mostOf (x ∷ xs) = max (pathSum here x) (mostOf xs)
 
-  pub in-most : (xs : List Path) (x : Path) → In x xs → pathSum x ≤ mostOf xs
+  pub in-most : (xs : List Path) (x : Path) → In x xs → pathSum here x ≤ mostOf xs
   in-most [] x i = absurd i
   in-most (y ∷ ys) x (inl e) = rw e (omega arith)
   in-most (y ∷ ys) x (inr i) = omega (arith, in-most ys x i)
 
   -- it is at most k exactly if each sum is
-  pub most-within : (k : ℕ) (xs : List Path) → (mostOf xs ≤ k) ↔ ((x : Path) → In x xs → pathSum x ≤ k)
+  pub most-within : (k : ℕ) (xs : List Path) → (mostOf xs ≤ k) ↔ ((x : Path) → In x xs → pathSum here x ≤ k)
   most-within k xs = (λ h x i. omega (arith, in-most xs x i), from xs)
     where
-      from : (xs : List Path) → ((x : Path) → In x xs → pathSum x ≤ k) → mostOf xs ≤ k
+      from : (xs : List Path) → ((x : Path) → In x xs → pathSum here x ≤ k) → mostOf xs ≤ k
       from [] h = omega arith
       from (x ∷ xs) h = omega (arith, h x (inl refl), from xs (λ y i. h y (inr i)))
 

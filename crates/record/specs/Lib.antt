@@ -5,4 +5,5 @@ pub mod Carried
 pub mod Demand2
 pub mod Demand3
 pub mod Enough
+pub mod Parts
 pub mod Entries

@@ -25,9 +25,9 @@ use Rattle.laws.specs.Int.{ints, lt-in, le-in, sum-is}
 use Rattle.laws.specs.Members.{In, T-true, same-test}
 use Rattle.laws.specs.Sorting.{at-in}
 use Rattle.laws.specs.Difference.{first-only}
+use Rattle.laws.specs.Entries.{getD-at}
 use Rattle.accepted.specs.Demands.{reached, reached-inside, policy-bytes, some-policy, listed, in-list, above, list-length, rest-after-last, none-missing}
 use Rattle.accepted.specs.Difference.{Sooner, difference-agree, difference-reached, difference-decides, not-listed}
-use Rattle.record.specs.Entries.{getD-at}
 use Rattle.standing.specs.Place.{place-at, place-inside}
 
 module _ (ws : Words) (K : ℕ) where

@@ -3,9 +3,8 @@
 use mathlib.Core.Path.{_≡_, sym, ap, _∙_}
 use mathlib.Core.Bool.{true, false}
 use mathlib.Core.List.{List, _∷_}
-use Prim.Native.Nat.{ℕ, suc, _+_, _-_, _*_, _≤_, _<_}
-use native.Mathlib.Nat.{zero-add, mul-le-mul-right, suc-mul}
-use native.Mathlib.Numerals.{add-one}
+use Prim.Native.Nat.{ℕ, suc, _+_, _-_, _*_, _≤_}
+use native.Mathlib.Nat.{zero-add}
 use native.Mathlib.Omega.{arith}
 use borrow.Author.Needs.{needs}
 use lib.ListN.{length, take, drop}
@@ -13,7 +12,7 @@ use lib.Seq.{take-all}
 use Rattle.model.specs.Lists.{same}
 use Rattle.model.specs.Policy.{Policy}
 use Rattle.model.specs.Standing.{placeIn}
-use Rattle.find.specs.Parts.{parts}
+use Rattle.record.specs.Parts.{parts, parts-left, part-inside}
 use Rattle.find.proofs.place_in.Statement.{statement}
 use Rattle.find.proofs.place_in.Tie as tie
 
@@ -22,12 +21,6 @@ Inv-loop plans n plan s i₀ i = (i ≤ n) × (placeIn (parts plans s 0 n) plan 
 
 abbrev μ-loop : tie.MeasureT-loop
 μ-loop plans n plan s i₀ i = n - i
-
--- part i is the first of those that are left
-still : (plans : List ℕ) (s i n : ℕ) → i < n → parts plans s i (n - i) ≡ take s (drop (i * s) plans) ∷ parts plans s (i + 1) (n - (i + 1))
-still plans s i n h =
-    let e : n - i ≡ suc (n - (i + 1)) = omega arith in
-    ap (parts plans s i) e ∙ ap (λ (j : ℕ). take s (drop (i * s) plans) ∷ parts plans s j (n - (i + 1))) (sym (add-one i))
 
 module _ (ps : List Policy) (p bs : Policy) where
   found : same p bs ≡ true → placeIn (p ∷ ps) bs ≡ 0
@@ -42,19 +35,15 @@ loop-holds c =
     let e : s .args .n - 0 ≡ s .args .n = omega arith in
     (omega arith, rw e (sym (zero-add _)))
 
--- part i lies in the slice
-inside : (i n s l : ℕ) → i < n → n * s ≤ l → i * s + s ≤ l
-inside i n s l h f = omega (arith, mul-le-mul-right {m = suc i} {n = n} s h, suc-mul i s)
-
 mul-same-bytes : tie.Need-mul-same-bytes Inv-loop μ-loop
 mul-same-bytes c =
     let s = c .before .before .before .before in
-    omega (arith, inside (c .before .loop .i) (s .args .n) (length (s .args .plan .now)) (length (s .args .plans .now)) (c .loop-test .taken) (s .pre), c .before .before)
+    omega (arith, part-inside (c .before .loop .i) (s .args .n) (length (s .args .plan .now)) (length (s .args .plans .now)) (c .loop-test .taken) (s .pre), c .before .before)
 
 same-bytes-requires : tie.Need-same-bytes-requires Inv-loop μ-loop
 same-bytes-requires c κs =
     let s = c .before .before .before .before in
-    (inside (c .before .loop .i) (s .args .n) (length (s .args .plan .now)) (length (s .args .plans .now)) (c .loop-test .taken) (s .pre), omega arith)
+    (part-inside (c .before .loop .i) (s .args .n) (length (s .args .plan .now)) (length (s .args .plans .now)) (c .loop-test .taken) (s .pre), omega arith)
 
 -- part i was compared
 module _ (c : tie.After-same-bytes Inv-loop μ-loop) where
@@ -77,7 +66,7 @@ module _ (c : tie.After-same-bytes Inv-loop μ-loop) where
       ≡ i + placeIn (part ∷ later) (s .args .plan .now)
   rest =
       c .before .before .loop .inv .1
-      ∙ ap (λ (ps : List Policy). i + placeIn ps (s .args .plan .now)) (still (s .args .plans .now) (length (s .args .plan .now)) i (s .args .n) (c .before .loop-test .taken))
+      ∙ ap (λ (ps : List Policy). i + placeIn ps (s .args .plan .now)) (parts-left (s .args .plans .now) (length (s .args .plan .now)) i (s .args .n) (c .before .loop-test .taken))
 
 returns : tie.Need-returns Inv-loop μ-loop
 returns c =
