@@ -2,7 +2,7 @@
 -- list's elements.
 -- Assumes nothing.
 use mathlib.Core.Path.{_≡_, refl, subst}
-use mathlib.Core.Bool.{Bool, true, false}
+use mathlib.Core.Bool.{Bool, true, false, cond}
 use mathlib.Core.Logic.{inl, inr, _↔_}
 use mathlib.Core.List.{List, [], _∷_, map}
 use mathlib.Core.Option.{some}
@@ -11,7 +11,7 @@ use native.Mathlib.Decide.{decLt}
 use native.Mathlib.Omega.{arith}
 use lib.Dec.{T}
 use lib.ListN.{length, getElem?, getD, take}
-use Rattle.model.specs.Lists.{bit, count, sorted}
+use Rattle.model.specs.Lists.{bit, firstWhere, count, sorted}
 use Rattle.laws.specs.Members.{In, Apart}
 use Rattle.laws.specs.Sorting.{Strict, Total, at-in, listed, listed-after}
 
@@ -33,6 +33,37 @@ module _ {A : Type 0} where
   getD-at [] j d x e = absurd (at-in [] j x e)
   getD-at (y ∷ ys) zero d x e = cc
   getD-at (y ∷ ys) (suc j) d x e = getD-at ys j d x e
+
+  -- the first element that passes a test, where one does: it is the entry, and no entry before it passes
+  module _ (test : A → Bool) where
+    pub where-at : (s : List A) → firstWhere test s < length s → (x : A) × (getElem? s (firstWhere test s) ≡ some x) × (test x ≡ true)
+    where-at [] h = absurd (omega arith)
+    where-at (y ∷ ys) h = go (test y) refl h (where-at ys)
+      where
+        go : (b : Bool) → test y ≡ b → cond b 0 (suc (firstWhere test ys)) < suc (length ys)
+            → (firstWhere test ys < length ys → (x : A) × (getElem? ys (firstWhere test ys) ≡ some x) × (test x ≡ true))
+            → (x : A) × (getElem? (y ∷ ys) (cond b 0 (suc (firstWhere test ys))) ≡ some x) × (test x ≡ true)
+        go true e h ih = (y, refl, e)
+        go false e h ih = ih (omega arith)
+
+    pub where-above : (s : List A) (j : ℕ) (x : A) → j < firstWhere test s → getElem? s j ≡ some x → test x ≡ false
+    where-above [] j x h e = absurd (omega arith)
+    where-above (y ∷ ys) j x h e = go (test y) refl j h e (λ i. where-above ys i x)
+      where
+        go : (b : Bool) → test y ≡ b → (j : ℕ) → j < cond b 0 (suc (firstWhere test ys)) → getElem? (y ∷ ys) j ≡ some x
+            → ((i : ℕ) → i < firstWhere test ys → getElem? ys i ≡ some x → test x ≡ false) → test x ≡ false
+        go true t j h e ih = absurd (omega arith)
+        go false t zero h e ih = let q : y ≡ x = cc in rw (← q) t
+        go false t (suc j) h e ih = ih j (omega arith) e
+
+    pub where-inside : (s : List A) (x : A) → In x s → test x ≡ true → firstWhere test s < length s
+    where-inside [] x i t = absurd i
+    where-inside (y ∷ ys) x (inl e) t = rw (← e, t) (omega arith)
+    where-inside (y ∷ ys) x (inr i) t = go (test y) (where-inside ys x i t)
+      where
+        go : (b : Bool) → firstWhere test ys < length ys → cond b 0 (suc (firstWhere test ys)) < suc (length ys)
+        go true ih = omega arith
+        go false ih = omega arith
 
   -- the first one of a list, by its entry
   pub take-one : (s : List A) (x : A) → getElem? (take 1 s) 0 ≡ some x → take 1 s ≡ x ∷ []

@@ -36,11 +36,14 @@ module _ (ws : Words) (limit : Limit) (bs : Policy) where
   abbrev pub mostMarked : ℕ
   mostMarked = mostOver ws (markOf ws (limit .marks)) bs
 
-  pub by-most : keepsLimit ws limit bs ≡ leb mostMarked (limit .most)
+  -- no path has more than m exactly if the most is at most m
+  pub within : (mostMarked ≤ limit .most) ↔ Keeps
   unfolding markedOn
+  within = over-within ws (markOf ws (limit .marks)) bs (limit .most)
+
+  pub by-most : keepsLimit ws limit bs ≡ leb mostMarked (limit .most)
   by-most =
-      same-test _ _ (λ t. true-T (le-leb _ _ (over-within ws (markOf ws (limit .marks)) bs (limit .most) .1 (keeps-is .0 t))))
-      (λ t. keeps-is .1 (over-within ws (markOf ws (limit .marks)) bs (limit .most) .0 (leb-true _ _ (T-true _ t))))
+      same-test _ _ (λ t. true-T (le-leb _ _ (within .1 (keeps-is .0 t)))) (λ t. keeps-is .1 (within .0 (leb-true _ _ (T-true _ t))))
 
   -- one path has the most
   pub one-has : bookNumber ws ≡ 0 → (x : Path) × In x (paths ws bs) × (markedOn ws (limit .marks) bs x ≡ mostMarked)

@@ -1,1 +1,4 @@
 pub mod Kept
+pub mod Answers
+pub mod Calls
+pub mod Example
