@@ -10,7 +10,7 @@ import search
 
 KINDS = {'end': 'e', 'read': 'i', 'text': 't', 'book': 'm', 'rank': 'r', 'write': 'w', 'check': 'c', 'least': 'l', 'value': 'v', 'power': 'd', 'accept': 'a',
          'show': 's', 'browse': 'b', 'page': 'p', 'open': 'o', 'ask': 'h', 'commit': 'y', 'cancel': 'n', 'fill': 'f', 'convert': 'x',
-         'find': 'q'}
+         'find': 'q', 'limit': 'u'}
 PLACES, MOST_COSTS, MOST_WORDS, FILL = 40960, 80, 5400, 77
 OUT, BOOK, TEXT = 8, 21504, 38400    # after k: where lent slices and records are put, books, and plans, titles and numbers for the desk
 PRINTED = 32
@@ -36,6 +36,11 @@ def head(words, most, k):
     return little(len(words), 4) + little(most, 4) + little(k, 4)
 
 
+def limit_bytes(marks, m):
+    """m in eight bytes, then the marks."""
+    return little(m, 8) + bytes(marks)
+
+
 # ---- commands
 
 def put(content, at=OUT):
@@ -54,6 +59,10 @@ def value(plan, at=TEXT):
 
 def find(k, plan, at=TEXT):
     return [put(plan, at), Command('find', at, at + len(plan), k=k)]
+
+
+def limit(k, marks, m, at=TEXT):
+    return [put(limit_bytes(marks, m), at), Command('limit', at, at + 8 + len(marks), k=k)]
 
 
 def rank(k, places, room):
@@ -203,6 +212,9 @@ class Machine:
 
     def find(self, c, part):
         return row(*ref.find(self.words, c.k, part))
+
+    def limit(self, c, part):
+        return row(*ref.limit(self.words, c.k, part[8:], number_at(part, 0)))
 
     def power(self, c, part):
         return row(0, c.k ** c.z if 1 <= c.k <= 100 and c.z <= 8 else 0, 0)

@@ -1,4 +1,4 @@
-"""The rules of document 01 with the changes of document 02 (2.1, 2.3, 2.7 to 2.9), word by word and without any search: plans and days are enumerated.
+"""The rules of document 01 with the changes of document 02 (2.1, 2.3, 2.7 to 2.10), word by word and without any search: plans and days are enumerated.
 
 Written from the documents alone. It shares nothing with the proved program, and is slow on purpose: every plan of the book is listed, every day
 of every plan is walked. Words below are those of the documents.
@@ -136,27 +136,41 @@ def missing_part(book, post, choice):
     return book.scale - sum(weight for _, weight in book.next_posts(post, choice))
 
 
-def days(book, plan):
-    """All days of a plan, each as (weight, cost).
+def walks(book, plan):
+    """All days of a plan, each as (weight, posts).
 
-    A day is one post per stage, from post 0, each next post on a line of the choice made: its weight is the product of those lines' weights, its cost the
-    sum of the H + 1 choices' costs. Or it stops after a choice before stage H whose weights add to less than D: its weight takes the missing part there
-    and D for each later stage before H, and its cost counts the choices made.
+    A day is one post per stage, from post 0, each next post on a line of the choice made: its weight is the product of those lines' weights. Or it stops
+    after a choice before stage H whose weights add to less than D: its weight takes the missing part there and D for each later stage before H.
     """
-    def walk(post, weight, cost):
+    def walk(posts, weight):
+        post = posts[-1]
         stage, choice = book.stage[post], plan[post]
-        cost += book.choices[post][choice][0]
         if stage == book.stages:
-            yield weight, cost
+            yield weight, posts
         elif missing_part(book, post, choice) > 0:
-            yield weight * missing_part(book, post, choice) * book.scale ** (book.stages - 1 - stage), cost
+            yield weight * missing_part(book, post, choice) * book.scale ** (book.stages - 1 - stage), posts
         for step, part in book.next_posts(post, choice):
-            yield from walk(step, weight * part, cost)
-    return walk(0, 1, 0)
+            yield from walk(posts + (step,), weight * part)
+    return walk((0,), 1)
+
+
+def days(book, plan):
+    """All days of a plan, each as (weight, cost): the cost is the sum of the costs of the choices made, H + 1 of them unless the day stops."""
+    return ((weight, sum(book.choices[post][plan[post]][0] for post in posts)) for weight, posts in walks(book, plan))
 
 
 def plan_cost(book, plan):
     return sum(weight * cost for weight, cost in days(book, plan))
+
+
+def choice_place(book, post, choice):
+    """The place of a choice among all choices of the book, in book order."""
+    return sum(book.counts[:post]) + choice
+
+
+def most_marked(book, marks, plan):
+    """The most marked choices that a day of the plan makes, those at stage H and before a stop included."""
+    return max(sum(marks[choice_place(book, post, plan[post])] for post in posts) for _, posts in walks(book, plan))
 
 
 def is_plan(book, slice_):
@@ -201,7 +215,7 @@ def plan_no(words):
 
 
 def list_no(words, k):
-    """What ranking, writing, accepting and finding ask of a book and K before any slice or the rest of a record: 1 to 14, then 28."""
+    """What ranking, writing, accepting, finding and limiting ask of a book and K before any slice or the rest of a record: 1 to 14, then 28."""
     return check(words) or count_no(k) or plan_no(words)
 
 
@@ -310,6 +324,24 @@ def find(words, k, slice_):
     if cost > last_cost:
         return 0, 2, cost - last_cost
     return 0, 3, min(post for post in range(book.posts) if plan[post] != last[post])
+
+
+def limit_no(book, marks, m):
+    """29: one mark for each choice of the book, 1 or 0, and m from 0 to 9?"""
+    return 0 if len(marks) == sum(book.counts) and all(mark in (0, 1) for mark in marks) and m <= 9 else 29
+
+
+def limit(words, k, marks, m):
+    """(number, answer, rank): 1, the rank of the first listed plan none of whose days makes more than m marked choices; 2, none in the list, which has K plans;
+    3, none in the book."""
+    no = list_no(words, k) or limit_no(Book(words), marks, m)
+    if no:
+        return no, 0, 0
+    book, best = Book(words), ranking(words, k)
+    for j, (_, plan) in enumerate(best):
+        if most_marked(book, marks, plan) <= m:
+            return 0, 1, j + 1
+    return 0, 2 if len(best) == k else 3, 0
 
 
 # ---- the programs: standard input to standard output, both as bytes

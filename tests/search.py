@@ -84,6 +84,16 @@ def plan_cost(book, plan):
     return numbers(book, tuple(plan))[0]
 
 
+def most_marked(book, marks, plan):
+    """As reference.most_marked, from the last posts back: of a choice made, its mark and the most that a next post has."""
+    found = {}
+    for post in reversed(range(book.posts)):
+        if plan[post] != 255:
+            later = [found[step] for step, _ in book.next_posts(post, plan[post])]
+            found[post] = marks[ref.choice_place(book, post, plan[post])] + max(later, default=0)
+    return found[0]
+
+
 @functools.lru_cache(maxsize=4)
 def longest_list(words):
     """The first 64 plans, of which every list is the front. The last books are kept."""
@@ -98,10 +108,10 @@ def plans_before(words, cost, plan):
 @contextlib.contextmanager
 def instead_of_enumeration():
     """The calls of reference.py, over this search."""
-    kept = ref.ranking, ref.is_plan, ref.plan_cost, ref.plans_before
+    kept = ref.ranking, ref.is_plan, ref.plan_cost, ref.plans_before, ref.most_marked
     ref.ranking, ref.is_plan, ref.plan_cost = (lambda words, k: longest_list(tuple(words))[:k]), is_plan, plan_cost
-    ref.plans_before = plans_before
+    ref.plans_before, ref.most_marked = plans_before, most_marked
     try:
         yield
     finally:
-        ref.ranking, ref.is_plan, ref.plan_cost, ref.plans_before = kept
+        ref.ranking, ref.is_plan, ref.plan_cost, ref.plans_before, ref.most_marked = kept

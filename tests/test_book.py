@@ -347,6 +347,66 @@ class Depots(unittest.TestCase):
         self.assertEqual(book.words_of_text(text.encode()), DEPOTS)
 
 
+MAINTENANCE = [10, 4, 42, 1, 2, 3, 3, 3, 1, 2, 2, 2, 2, 2, 2, 2, 2, 1, 1, 1] \
+    + [2, 0, 1, 1, 0, 2, 0, 1, 1, 0, 2, 1, 2, 1, 0, 2, 0, 1, 1, 0, 2, 1, 2, 1, 0, 0, 1, 0, 2, 0, 1, 1, 0, 2, 1, 2, 1, 0, 0, 0, 0, 0] \
+    + [100, 7, 3, -55, 10, -70, 6, 4, -40, 10, -50, 6, 4, -55, 10, -70, 5, 5, -40, 10, -50, 5, 5, -30, 10, -5, -55, 10, -70, 2, 8, -40, 10, -50, 2, 8, -30, 10,
+       -5, -30, -10, -5]
+MAINTAIN = [0] + [1, 0] * 8 + [0] * 3
+
+
+class Marks(unittest.TestCase):
+    def drawn(self):
+        rng = random.Random('marks')
+        for _ in range(200):
+            yield rng, rng.choice(books.ALL_SHAPES + 3 * books.WITH_CLOSED)(rng)
+
+    def with_marks(self, text, marks):
+        """The text with the word marked at the end of the line of each choice that has a mark."""
+        marks, lines = [*marks], text.split('\n')
+        for n, line in enumerate(lines):
+            if line.split()[:1] in (['choice'], ['depot']) and marks.pop(0):
+                lines[n] += ' marked'
+        self.assertEqual(marks, [])
+        return '\n'.join(lines)
+
+    def test_example(self):
+        with open(os.path.join(HERE, '..', 'examples', 'maintenance.txt'), 'rb') as f:
+            data = f.read()
+        self.assertEqual(book.book_and_marks(data), (MAINTENANCE, MAINTAIN))
+        for line in data.decode().split('\n'):
+            if line.strip().startswith('choice'):
+                self.assertEqual('marked' in line, '# maintain' in line)
+
+    def test_every_book(self):
+        """A mark for each choice in the order of the book, closed ones and depots too; the words are those of the text without marks."""
+        found = {0: 0, 1: 0, 'closed': 0, 'depot': 0}
+        for rng, words in self.drawn():
+            marks = [rng.randrange(2) for _ in books.every_choice(ref.Book(words))]
+            text = self.with_marks(book.text_of_words(words), marks)
+            self.assertEqual(book.book_and_marks(text.encode()), (words, marks))
+            self.assertEqual(book.words_of_text(text.encode()), words)
+            self.assertEqual(book.to_marks(text.encode()), bytes(marks))
+            self.assertEqual(book.book_and_marks(book.text_of_words(words).encode()), (words, [0] * len(marks)))
+            for mark in marks:
+                found[mark] += 1
+            for word in ('closed', 'depot'):
+                found[word] += sum('marked' in line for line in text.split('\n') if word in line)
+        self.assertGreater(min(found.values()), 200, found)
+
+    def test_plain_words(self):
+        """The numbers of all lines marks, wherever they stand among the lines words; any bytes, and as many as are given."""
+        for text, words, marks in (('words 1 2', [1, 2], []), ('words', [], []), ('words 1\nmarks', [1], []), ('words\nmarks 0 1 2 255', [], [0, 1, 2, 255]),
+                                   ('marks 1 0\nwords 5\nmarks 7\nwords -6', [5, -6], [1, 0, 7])):
+            self.assertEqual(book.book_and_marks(text.encode()), (words, marks))
+            self.assertEqual(book.words_of_text(text.encode()), words)
+            self.assertEqual(book.to_marks(text.encode()), bytes(marks))
+
+    def test_not_written(self):
+        """No word of a book says what is marked, so the text of its words has no marks."""
+        for words in (MAINTENANCE, tours.book_a(), [1, 2]):
+            self.assertNotIn('mark', book.text_of_words(words))
+
+
 class Records(unittest.TestCase):
     def test_closed(self):
         """The book of a record is written with its closed choices, and its plans take none."""
@@ -445,17 +505,17 @@ MESSAGES = [
     ('scale 2\nchoice 0 cost 1', 'line 2: a line "choice" before the first line "stage"'),
     ('scale 2\nstage 0\nchoice 0 cost 1', 'line 3: a line "choice" before the first line "post"'),
     ('scale 2\nstage 0\npost 0\nchoice 1 cost 1', 'line 4: choice 1 is written where choice 0 is due'),
-    ('scale 2\nstage 0\npost 0\nchoice 0', 'line 4: expected "choice NUMBER cost NUMBER" or "choice NUMBER closed"'),
-    ('scale 2\nstage 0\npost 0\nchoice 0 price 1', 'line 4: expected "choice NUMBER cost NUMBER" or "choice NUMBER closed"'),
-    ('scale 2\nstage 0\npost 0\nchoice 0 cost', 'line 4: expected "choice NUMBER cost NUMBER" or "choice NUMBER closed"'),
-    ('scale 2\nstage 0\npost 0\nchoice 0 closed 1', 'line 4: expected "choice NUMBER cost NUMBER" or "choice NUMBER closed"'),
-    ('scale 2\nstage 0\npost 0\nchoice closed', 'line 4: expected "choice NUMBER cost NUMBER" or "choice NUMBER closed"'),
+    ('scale 2\nstage 0\npost 0\nchoice 0', 'line 4: expected "choice NUMBER cost NUMBER [marked]" or "choice NUMBER closed [marked]"'),
+    ('scale 2\nstage 0\npost 0\nchoice 0 price 1', 'line 4: expected "choice NUMBER cost NUMBER [marked]" or "choice NUMBER closed [marked]"'),
+    ('scale 2\nstage 0\npost 0\nchoice 0 cost', 'line 4: expected "choice NUMBER cost NUMBER [marked]" or "choice NUMBER closed [marked]"'),
+    ('scale 2\nstage 0\npost 0\nchoice 0 closed 1', 'line 4: expected "choice NUMBER cost NUMBER [marked]" or "choice NUMBER closed [marked]"'),
+    ('scale 2\nstage 0\npost 0\nchoice closed', 'line 4: expected "choice NUMBER cost NUMBER [marked]" or "choice NUMBER closed [marked]"'),
     ('scale 2\nstage 0\npost 0\nchoice 0 cost closed', 'line 4: "closed" is not a whole number'),
     ('scale 2\nstage 0\npost 0\nchoice 1 closed', 'line 4: choice 1 is written where choice 0 is due'),
     ('scale 2\nstage 0\nchoice 0 closed', 'line 3: a line "choice" before the first line "post"'),
     ('scale 2\nstage 0\npost 0\nchoice 0 cost x', 'line 4: "x" is not a whole number'),
-    ('scale 2\nstage 0\npost 0\ndepot 0', 'line 4: expected "depot NUMBER cost NUMBER" or "depot NUMBER closed"'),
-    ('scale 2\nstage 0\npost 0\ndepot 0 weight 1', 'line 4: expected "depot NUMBER cost NUMBER" or "depot NUMBER closed"'),
+    ('scale 2\nstage 0\npost 0\ndepot 0', 'line 4: expected "depot NUMBER cost NUMBER [marked]" or "depot NUMBER closed [marked]"'),
+    ('scale 2\nstage 0\npost 0\ndepot 0 weight 1', 'line 4: expected "depot NUMBER cost NUMBER [marked]" or "depot NUMBER closed [marked]"'),
     ('scale 2\nstage 0\npost 0\ndepot 0 cost 1\ndepot 2 cost 1', 'line 5: depot 2 is written where depot 1 is due'),
     ('scale 2\nstage 0\npost 0\nchoice 0 cost 1\ndepot 0 closed', 'line 5: depot 0 is written where depot 1 is due'),
     ('scale 2\nstage 0\ndepot 0 cost 1', 'line 3: a line "depot" before the first line "post"'),
@@ -486,6 +546,24 @@ MESSAGES = [
     ('words 1\nscale 2', 'line 2: lines "words" stand in a book alone'),
     ('words\nstage 0', 'line 2: lines "words" stand in a book alone'),
     ('words 1 x', 'line 1: "x" is not a whole number'),
+    ('scale 2\nstage 0\npost 0\nchoice 0 marked', 'line 4: expected "choice NUMBER cost NUMBER [marked]" or "choice NUMBER closed [marked]"'),
+    ('scale 2\nstage 0\npost 0\nchoice 0 cost marked', 'line 4: expected "choice NUMBER cost NUMBER [marked]" or "choice NUMBER closed [marked]"'),
+    ('scale 2\nstage 0\npost 0\nchoice 0 cost 1 mark', 'line 4: expected "choice NUMBER cost NUMBER [marked]" or "choice NUMBER closed [marked]"'),
+    ('scale 2\nstage 0\npost 0\nchoice 0 marked cost 1', 'line 4: expected "choice NUMBER cost NUMBER [marked]" or "choice NUMBER closed [marked]"'),
+    ('scale 2\nstage 0\npost 0\nchoice 0 cost 1 marked marked', 'line 4: expected "choice NUMBER cost NUMBER [marked]" or "choice NUMBER closed [marked]"'),
+    ('scale 2\nstage 0\npost 0\nchoice 0 cost marked marked', 'line 4: "marked" is not a whole number'),
+    ('scale 2\nstage 0\npost 0\ndepot 0 closed 1 marked', 'line 4: expected "depot NUMBER cost NUMBER [marked]" or "depot NUMBER closed [marked]"'),
+    ('scale 2\nstage 0\npost 0\nchoice 1 cost 1 marked', 'line 4: choice 1 is written where choice 0 is due'),
+    ('scale 2\nstage 0\npost 0\nchoice 0 cost 1\nnext 0 weight 2 marked', 'line 5: expected "next NUMBER weight NUMBER"'),
+    ('scale 2\nstage 0\npost 0 marked', 'line 3: expected "post NUMBER"'),
+    ('words 1\nmarks 0 256', 'line 2: 256 does not fit a byte'),
+    ('words 1\nmarks -1', 'line 2: -1 does not fit a byte'),
+    ('words 1\nmarks one', 'line 2: "one" is not a whole number'),
+    ('words 1\nmarks 2147483648', 'line 2: 2147483648 does not fit 32 bits'),
+    ('marks 1\n', 'line 2: the text ends without a line "words"'),
+    ('scale 2\nmarks 1', 'line 2: lines "marks" stand beside lines "words" alone'),
+    ('marks 1\nscale 2', 'line 2: lines "marks" stand beside lines "words" alone'),
+    ('words 1\nmarks 1\nscale 2', 'line 3: lines "words" stand in a book alone'),
 ]
 
 
@@ -529,7 +607,9 @@ class Document(unittest.TestCase):
         self.assertIn(blocks[1], book.text_of_words(CLOSED_BRIDGE))
         self.assertIn(blocks[2], book.text_of_words(REFUSED_PARCEL))
         self.assertIn(blocks[3], book.text_of_words(DEPOTS))
-        self.assertTrue(book.record_to_text(ref.record(tours.book_a(), 3)).endswith(blocks[4]))
+        with open(os.path.join(HERE, '..', 'examples', 'maintenance.txt'), encoding='utf-8') as f:
+            self.assertIn(blocks[4], f.read())
+        self.assertTrue(book.record_to_text(ref.record(tours.book_a(), 3)).endswith(blocks[5]))
 
     def test_pages(self):
         pages = [re.sub('^    ', '', part, flags=re.M) for part in re.findall(r'(?<=\n\n)(?:    .*\n)+(?=\n)', self.text)]
@@ -600,11 +680,16 @@ class Command(unittest.TestCase):
         back = self.run_tool('to-text', '-', data=done.stdout[4:])
         self.assertEqual(back.returncode, 0)
         self.assertEqual(self.run_tool('to-binary', '-', data=back.stdout).stdout, done.stdout[4:])
+        marked = BOOK_A.replace('cost 12', 'cost 12 marked').encode()
+        self.assertEqual(self.run_tool('to-binary', '-', data=marked).stdout, done.stdout[4:])
+        marks = self.run_tool('to-marks', '-', data=marked)
+        self.assertEqual((marks.returncode, marks.stdout, marks.stderr), (0, b'\0\1\0\0', b''))
         shown = self.run_tool('record-to-text', '-', data=ref.record(tours.book_a(), 3))
         self.assertEqual((shown.returncode, shown.stdout.decode()), (0, book.record_to_text(ref.record(tours.book_a(), 3))))
 
     def test_refusals(self):
         for command, data, message in (('to-binary', b'scale 2\nplace 0', b'-: line 2: unknown word "place"\n'),
+                                       ('to-marks', b'words 1\nmarks 999', b'-: line 2: 999 does not fit a byte\n'),
                                        ('to-text', b'123', b'-: the file has 3 bytes, which is not a multiple of 4\n'),
                                        ('record-to-text', b'123', b'-: the file has 3 bytes, and a record begins with 12\n')):
             done = self.run_tool(command, '-', data=data)

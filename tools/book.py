@@ -1,7 +1,8 @@
 #!/usr/bin/env python3
-"""Turns tour books between their text form and their binary form, and shows a filed record as text. docs/FORMAT.md describes all three.
+"""Turns tour books between their text form and their binary form, gives the marks of a text, and shows a filed record as text. docs/FORMAT.md describes all.
 
     tools/book.py to-binary [--count K] book.txt > book.bin     with --count, K stands in front, as the printing program reads it
+    tools/book.py to-marks book.txt > marks.bin                 a byte for each choice, 1 where it is marked
     tools/book.py to-text book.bin > book.txt
     tools/book.py record-to-text record.bin
 
@@ -50,13 +51,17 @@ def number(line, text):
 
 
 def fields(line, text, parts):
-    """The numbers of a line, whose other words must be those of its form, or of one of its forms."""
+    """The numbers of a line, whose other words must be those of its form, or of one of its forms. A form that ends with a word in brackets may do without
+    it; whether the line has it comes first."""
     forms = text.split(' | ')
     for form in map(str.split, forms):
         if form[-1] == '..':
             return [number(line, part) for part in parts[1:]]
-        if len(parts) == len(form) and all(a in ('NUMBER', b) for a, b in zip(form, parts)):
-            return [number(line, part) for a, part in zip(form, parts) if a == 'NUMBER']
+        optional = form[-1][0] == '['
+        has = optional and parts[-1] == form[-1][1:-1]
+        needed, given = form[:len(form) - optional], parts[:len(parts) - has]
+        if len(given) == len(needed) and all(a in ('NUMBER', b) for a, b in zip(needed, given)):
+            return [has] * optional + [number(line, part) for a, part in zip(needed, given) if a == 'NUMBER']
     refuse(line, 'expected ' + ' or '.join('"%s"' % form for form in forms))
 
 
@@ -71,12 +76,12 @@ def columns(choices):
 
 class Reader:
     """Takes the lines of a text. Each kind of line has a form in FORMS, or several parted by |, and a method take_; KIND is what the text says, unless it says
-    plain words. Lines that stand once and say one number of the whole are kept in `sizes`."""
+    plain words. Lines that stand once and say one number of the whole are kept in `sizes`, the numbers of the lines of plain words in `plain`."""
 
-    KIND, FORMS, SIZES = '', {}, ()
+    KIND, FORMS, SIZES, PLAIN = '', {}, (), ('words',)
 
     def __init__(self):
-        self.sizes, self.begun, self.words = {}, False, None
+        self.sizes, self.begun, self.plain = {}, False, {}
 
     def due(self, line, name, given, count):
         if given != count:
@@ -92,15 +97,25 @@ class Reader:
         if name not in self.FORMS:
             refuse(line, 'unknown word "%s"' % name)
         values = fields(line, self.FORMS[name], parts)
-        if self.begun if name == 'words' else self.words is not None:
-            refuse(line, 'lines "words" stand in a %s alone' % self.KIND)
-        if name == 'words':
-            self.words = (self.words or []) + values
-        elif name in self.SIZES:
+        if name in self.PLAIN:
+            self.take_plain(line, name, values)
+            return
+        if self.plain:
+            self.refuse_beside(line, next(iter(self.plain)))
+        if name in self.SIZES:
             self.take_size(line, name, *values)
         else:
             getattr(self, 'take_' + name)(line, *values)
-        self.begun = name != 'words'
+        self.begun = True
+
+    def take_plain(self, line, name, values):
+        if self.begun:
+            self.refuse_beside(line, name)
+        self.plain[name] = self.plain.get(name, []) + values
+
+    def refuse_beside(self, line, name):
+        """A line of plain words, of this name, and one of another kind stand in one text."""
+        refuse(line, 'lines "words" stand in a %s alone' % self.KIND if name == 'words' else 'lines "%s" stand beside lines "words" alone' % name)
 
     def take_size(self, line, name, value):
         if name in self.sizes:
@@ -113,8 +128,9 @@ class Reader:
 
     def all_words(self, line):
         """The words, once the text has ended before this line."""
-        if self.words is not None:
-            return self.words
+        if self.plain:
+            self.needs(line, 'words', 'words' in self.plain)
+            return self.plain['words']
         for name in self.SIZES:
             self.needs(line, name, name in self.sizes)
         return self.made(line)
@@ -122,23 +138,25 @@ class Reader:
 
 class BookReader(Reader):
     """What the lines say so far: stages of posts of choices, each choice [cost, [(next post, weight)]]. And the stops, each (line, stage, choice, weight), and
-    the depots, each (line, stage): only the whole text can say whether the weight is the one due, and which stage is the last."""
+    the depots, each (line, stage): only the whole text can say whether the weight is the one due, and which stage is the last. And of each choice whether it is
+    marked, which no word says."""
 
-    KIND, SIZES = 'book', ('scale',)
+    KIND, SIZES, PLAIN = 'book', ('scale',), ('words', 'marks')
     FORMS = {
         'scale': 'scale NUMBER',
         'stage': 'stage NUMBER',
         'post': 'post NUMBER',
-        'choice': 'choice NUMBER cost NUMBER | choice NUMBER closed',
-        'depot': 'depot NUMBER cost NUMBER | depot NUMBER closed',
+        'choice': 'choice NUMBER cost NUMBER [marked] | choice NUMBER closed [marked]',
+        'depot': 'depot NUMBER cost NUMBER [marked] | depot NUMBER closed [marked]',
         'next': 'next NUMBER weight NUMBER',
         'stop': 'stop weight NUMBER',
         'words': 'words NUMBER ..',
+        'marks': 'marks NUMBER ..',
     }
 
     def __init__(self):
         super().__init__()
-        self.stages, self.posts, self.stops, self.depots = [], 0, [], []
+        self.stages, self.posts, self.stops, self.depots, self.marked = [], 0, [], [], []
 
     def post(self, line, name):
         return self.inner(line, name, 'post', self.inner(line, name, 'stage', self.stages))
@@ -153,13 +171,14 @@ class BookReader(Reader):
         stage.append([])
         self.posts += 1
 
-    def take_choice(self, line, n, cost=CLOSED, name='choice'):
+    def take_choice(self, line, marked, n, cost=CLOSED, name='choice'):
         post = self.post(line, name)
         self.due(line, name, n, len(post))
         post.append([cost, []])
+        self.marked.append(int(marked))
 
-    def take_depot(self, line, n, cost=CLOSED):
-        self.take_choice(line, n, cost, 'depot')
+    def take_depot(self, line, marked, n, cost=CLOSED):
+        self.take_choice(line, marked, n, cost, 'depot')
         self.depots.append((line, len(self.stages) - 1))
 
     def take_next(self, line, step, weight):
@@ -170,6 +189,16 @@ class BookReader(Reader):
         if self.stops and self.stops[-1][2] is choice:
             refuse(line, 'a second line "stop" in one choice')
         self.stops.append((line, len(self.stages) - 1, choice, weight))
+
+    def take_plain(self, line, name, values):
+        super().take_plain(line, name, values)
+        for value in values if name == 'marks' else ():
+            if not 0 <= value <= 255:
+                refuse(line, '%d does not fit a byte' % value)
+
+    def marks(self):
+        """The marks of the choices in the order of the book, or beside plain words the numbers that are given for them."""
+        return self.plain.get('marks', []) if self.plain else self.marked
 
     def check_depots(self):
         for line, stage in self.depots:
@@ -196,8 +225,9 @@ class BookReader(Reader):
         return [self.sizes['scale'], len(self.stages) - 1, len(left)] + sizes + [len(post) for post in posts] + left + right
 
 
-def words_of_text(data, kind=BookReader):
-    reader, line = kind(), 0
+def read(data, reader):
+    """The words of a text, whose lines the reader takes."""
+    line = 0
     for line, raw in enumerate(data.split(b'\n'), 1):
         try:
             text = raw.decode('utf-8')
@@ -209,6 +239,16 @@ def words_of_text(data, kind=BookReader):
     return reader.all_words(line)
 
 
+def words_of_text(data, kind=BookReader):
+    return read(data, kind())
+
+
+def book_and_marks(data):
+    """The words of a book's text, and its marks, a number from 0 to 255 for each choice."""
+    reader = BookReader()
+    return read(data, reader), reader.marks()
+
+
 def bytes_of_words(words):
     return b''.join(word.to_bytes(4, 'little', signed=True) for word in words)
 
@@ -216,6 +256,10 @@ def bytes_of_words(words):
 def to_binary(data, count=None):
     front = b'' if count is None else count.to_bytes(4, 'little')
     return front + bytes_of_words(words_of_text(data))
+
+
+def to_marks(data):
+    return bytes(book_and_marks(data)[1])
 
 
 # ---- words to text
@@ -399,10 +443,11 @@ def run(given, turn):
 
 
 def main():
-    parser, commands = arguments('Tour books and records as text.', 'to-binary', 'to-text', 'record-to-text')
+    parser, commands = arguments('Tour books and records as text.', 'to-binary', 'to-marks', 'to-text', 'record-to-text')
     commands['to-binary'].add_argument('--count', type=unsigned, metavar='K')
     given = parser.parse_args()
-    return run(given, {'to-binary': lambda data: to_binary(data, given.count), 'to-text': to_text, 'record-to-text': record_to_text}[given.command])
+    turns = {'to-binary': lambda data: to_binary(data, given.count), 'to-marks': to_marks, 'to-text': to_text, 'record-to-text': record_to_text}
+    return run(given, turns[given.command])
 
 
 if __name__ == '__main__':

@@ -13,7 +13,9 @@
 //     and the part                          p  prints the page of the part
 //  w  writes their record into the part     x  converts the book, as a planners'
 //  q  finds the part, as a policy, in the      table, into the words of the part
-//     list of k policies
+//     list of k policies                    u  seeks the first of k policies that keeps
+//                                              the limit of the part: m in eight bytes,
+//                                              then the marks
 //
 // At the desk the part has numbers of eight bytes, 0 where they are missing: the rider and the rank.
 //
@@ -108,6 +110,16 @@ fn print_bytes(bytes: &[u8]) {
 
 // ---- the calls
 
+// The number of the eight bytes from a place on.
+fn number_at(bytes: &[u8], at: usize) -> usize
+    requires { ⌜ at < 4096 ⌝ }
+{
+    if bytes.len() < at + 8 {
+        return 0;
+    }
+    (bytes_io::read4(bytes, at) + 4294967296 * bytes_io::read4(bytes, at + 4)) as usize
+}
+
 // The number and the figures of a call that writes nothing.
 fn ask(h: Head, b: &[i32], part: &[u8]) -> [i64; 3] {
     if h.kind == b'c' {
@@ -128,6 +140,11 @@ fn ask(h: Head, b: &[i32], part: &[u8]) -> [i64; 3] {
     if h.kind == b'q' {
         let f = find::find(b, h.k, part);
         return [f.no as i64, f.answer as i64, f.value];
+    }
+    if h.kind == b'u' {
+        let from = lesser(8, part.len());
+        let l = limit::limit(b, h.k, &part[from..part.len()], number_at(part, 0));
+        return [l.no as i64, l.answer as i64, figure(l.rank)];
     }
     [0, figure(power::power(h.k, h.z as usize) as usize), 0]
 }
@@ -210,16 +227,6 @@ fn print_part(h: Head, part: &[u8]) {
 
 fn at_desk(kind: u8) -> bool {
     kind == b'o' || kind == b'h' || kind == b'y' || kind == b'n' || kind == b'f'
-}
-
-// The number of the eight bytes from a place on.
-fn number_at(bytes: &[u8], at: usize) -> usize
-    requires { ⌜ at < 4096 ⌝ }
-{
-    if bytes.len() < at + 8 {
-        return 0;
-    }
-    (bytes_io::read4(bytes, at) + 4294967296 * bytes_io::read4(bytes, at + 4)) as usize
 }
 
 fn ranks_at(part: &[u8], from: usize) -> [u8; 16]
