@@ -6,8 +6,8 @@
 
 Each rule of document 01 has its cases here: the tours, each question from both sides, which of two comes first, rooms and counts at their limits,
 ties, records with each byte changed, pages, the largest book. After them stand those of document 02: stops, six next posts, the desk, planners' tables, closed
-choices, depots, where a plan stands. Breadth is fresh.py's; a few of its kinds are stored too. New cases are added at the end, so that the others keep their
-numbers.
+choices, depots, where a plan stands, limits of marked choices. Breadth is fresh.py's; a few of its kinds are stored too. New cases are added at the end, so that
+the others keep their numbers.
 """
 
 import itertools
@@ -1179,6 +1179,183 @@ def largest_find_cases():
         yield Case('find: ' + name, finds(words, (1, 32, 63, 64), slices), True)
 
 
+# ---- limits of marked choices (2.10 of document 02)
+
+MOSTS = (*range(12), 255, 256, 2 ** 31, 2 ** 32 - 1, 2 ** 32, 2 ** 32 + 9, 2 ** 63, 2 ** 64 - 1)
+
+
+def limited(words, counts, rows):
+    """Each (marks, m) in the list of each K. m and the marks lie one row after the other."""
+    parts = [machine.limit_bytes(*row) for row in rows]
+    ends = [*itertools.accumulate(map(len, parts), initial=OUT)]
+    return book(words) + [put(b''.join(parts))] + [Command('limit', *part, k=k) for k in counts for part in zip(ends, ends[1:])]
+
+
+def marks_at(words, where):
+    """1 for each of these choices, 0 for every other."""
+    return [int(place in where) for place in books.every_choice(ref.Book(words))]
+
+
+def all_marks(words, mark=1):
+    return [mark] * sum(ref.Book(words).counts)
+
+
+def all_ms(*rows):
+    """Each row of marks with m from 0 to 9."""
+    return [(marks, m) for marks in rows for m in range(10)]
+
+
+def near_end(words):
+    """K of 1, about as many as the book has plans, and 64."""
+    n = len(plans_of(words))
+    return sorted({1, max(1, n - 1), n, n + 1, 64} - {*range(65, n + 2)})
+
+
+# The maintenance example of source document 000. Posts 1 and 2 of the first stage, 3 to 5 of the second and 6 to 8 of the third are good, average and, from the
+# second on, not working; choice 0 of each is to maintain, which leads to a good machine. A post that does not work may stop surely.
+def maintenance():
+    rows = [[(100, [(0, 7), (1, 3)])]]
+    for good, last in ((6, True), (5, False), (2, False)):
+        worse = [[(-55, [(0, 10)]), (-70, [(0, good), (1, 10 - good)])], [(-40, [(0, 10)]), (-50, [(1, good), (2, 10 - good)])]]
+        rows += worse + ([] if last else [[(-30, [(0, 10)]), (-5, [])]])
+    return books.build(10, [1, 2, 3, 3, 3], rows + [[(-30, [])], [(-10, [])], [(-5, [])]])
+
+
+MAINTAIN = {(post, 0) for post in range(1, 9)}
+
+# A climb at each stage: choice 0 of each post is the cheaper one, and is marked.
+CLIMBS = chain(2, 2, 2, cost=lambda choice: choice)
+CLIMB = {(post, 0) for post in range(3)}
+
+
+def limit_books():
+    """(what, book): small ones, each choice of which is marked alone."""
+    yield from (('A', tours.book_a()), ('C', tours.book_c()), ('a small book', SMALL), ('a book with stops', STOPS), ('a book with closed choices', SHUT),
+                ('a book with depots', DEPOTS), ('a book with posts that some or all plans do not reach', far_posts()),
+                ('a stop, a sure stop and a full plan that tie', one_post(2, *TIED_WAYS)), ('eight depots', one_line(3, 9, 1, 4, 1, 5, 9, 2)),
+                ('depots that tie with choices before stage H', TIED_DEPOTS))
+    for name, words in ((', in a book with stops', STOPS), (', in a book with depots', DEPOTS)):
+        yield from (('choice %d of post %d closed%s' % (c, post, name), books.close(words, [(post, c)])) for post, c in books.every_choice(ref.Book(words))
+                    if plans_of(books.close(words, [(post, c)])))
+
+
+def limit_book_cases():
+    """No marks; all; each choice alone, and all but that one."""
+    for what, words in limit_books():
+        every, stages = books.every_choice(ref.Book(words)), words[1]
+        rows = [(all_marks(words, 0), m) for m in (0, 9)] + [(all_marks(words), m) for m in (*range(stages + 2), 9)]
+        rows += [(marks_at(words, {place}), 0) for place in every]
+        rows += [(marks_at(words, {*every} - {place}), m) for place in every for m in range(stages + 1)]
+        yield 'limit: ' + what, limited(words, near_end(words), rows)
+
+
+def limit_fault_cases():
+    """29: m, the values and the length of the marks, on both sides; in a list where the marks are kept and in one where they are not."""
+    for name, words in (('C', tours.book_c()), ('a book with stops', STOPS), ('a book with closed choices', SHUT), ('a book with depots', DEPOTS)):
+        none, every = all_marks(words, 0), all_marks(words)
+        n = len(every)
+        yield 'limit: each m for %s' % name, limited(words, (1, 64), [(marks, m) for marks in (none, every) for m in MOSTS])
+        values = [(marks[:at] + [x] + marks[at + 1:], 9) for marks in (none, every) for at in range(n) for x in (2, 3, 127, 128, 255)]
+        yield 'limit: marks of %s that are no 0 and no 1' % name, limited(words, (3,), values)
+        lengths = [([mark] * length, m) for mark, m in ((0, 0), (1, 9)) for length in (0, 1, n - 2, n - 1, n, n + 1, n + 2, 2 * n, 4 * n, 255, 256, 512, 513)]
+        yield 'limit: marks of %s that are too few or too many' % name, limited(words, (3,), lengths)
+
+
+def limit_stop_cases():
+    """The choice after which a day stops counts, as does each before it; what the day would have come to does not."""
+    end = row_of_posts(2, [(3, 1)], [(2, 0)], [(5, 2)])    # it may stop at post 0, and stops surely at post 1
+    yield 'limit: a sure stop at post 1', limited(end, (1, 2), [(marks_at(end, where), m) for m in range(3) for where in
+                                                                ({(0, 0)}, {(1, 0)}, {(2, 0)}, {(3, 0)}, {(0, 0), (1, 0)}, {(1, 0), (2, 0), (3, 0)})])
+    ways = row_of_posts(2, [(3, 2), (4, 0)], [(-2, 1), (0, 0)], [(5, 0), (4, 2)])    # each post stops surely, may stop, or goes on
+    every = books.every_choice(ref.Book(ways))
+    pairs = [(marks_at(ways, {*pair}), m) for pair in itertools.combinations(every, 2) for m in (0, 1)]
+    yield 'limit: two marks where each post may stop', limited(ways, (1, 2, 64), pairs)
+    sure = row_of_posts(2, [(3, 0), (4, 0)], [(-2, 0)], [(5, 0)])
+    yield 'limit: every choice stops surely', limited(sure, (1, 2, 3), all_ms(all_marks(sure), marks_at(sure, {(0, 0)}), marks_at(sure, {(0, 1)})))
+    seldom = books.build(100, [1, 2, 1], [[(1, [(0, 98), (1, 1)]), (9, [(0, 100)])], [(2, [(0, 100)])], [(2, [(0, 100)])], [(0, [])]])
+    rare = {(0, 0), (2, 0)}    # two on one day in a hundred
+    yield 'limit: one day in a hundred', limited(seldom, (1, 2, 3), all_ms(marks_at(seldom, rare), marks_at(seldom, rare | {(0, 1), (1, 0)})))
+
+
+def limit_place_cases():
+    """Marks that count, and marks that do not: at stage H, at closed choices, at posts that a plan or that no plan reaches."""
+    last = books.last_posts(ref.Book(DEPOTS))
+    depots = [place for place in books.every_choice(ref.Book(DEPOTS)) if place[0] in last]
+    sets = [{*row} for n in (1, 2, len(depots)) for row in itertools.combinations(depots, n)]
+    yield 'limit: marked depots', limited(DEPOTS, (1, 3, 64), [(marks_at(DEPOTS, where), m) for where in sets for m in (0, 1)])
+    closed = {*books.closures(SHUT)}
+    opened_ = {*books.every_choice(ref.Book(SHUT))} - closed
+    yield 'limit: marks at closed choices alone, and at open ones alone', limited(SHUT, (1, 2, 64), all_ms(marks_at(SHUT, closed), marks_at(SHUT, opened_)))
+    far = far_posts()
+    far_away = {place for place in books.every_choice(ref.Book(far)) if place[0] in (3, 5)}
+    yield 'limit: marks at posts that no plan reaches', limited(far, (1, 2, 64), all_ms(marks_at(far, far_away), marks_at(far, {(1, 0), (1, 1)})))
+    sixty_four = last_of_64()
+    rows = [(marks_at(sixty_four, {(63, c) for c in range(n)}), 0) for n in range(9)]
+    yield 'limit: marks at the depots of post 63', limited(sixty_four, range(1, 10), rows)
+
+
+def limit_list_cases():
+    """Every rank, the end of the list, and all plans listed."""
+    for k in (7, 8, 9, 64):
+        yield 'limit: 8 plans, K %d' % k, limited(CLIMBS, (k,), all_ms(marks_at(CLIMBS, CLIMB), all_marks(CLIMBS)))
+    yield 'limit: 8 plans, each K', limited(CLIMBS, range(1, 11), [(marks_at(CLIMBS, CLIMB), m) for m in range(4)])
+    yield 'limit: 4 plans that tie, each K', limited(chain(2, 2), range(1, 7), [(marks_at(chain(2, 2), where), m) for m in range(2) for where in
+                                                                             ({(0, 0)}, {(1, 0)}, {(0, 0), (1, 0)}, {(0, 1), (1, 1)}, {(0, 0), (0, 1)})])
+    row = chain(8, 8)
+    places = [marks_at(row, {(0, c) for c in range(i)} | {(1, c) for c in range(j)}) for i in range(0, 9, 2) for j in range(0, 9, 3)]
+    yield 'limit: 64 plans that tie', limited(row, (1, 8, 32, 63, 64), [(marks, 0) for marks in places])
+    many = chain(8, 8, 8, cost=lambda choice: choice)
+    low = [marks_at(many, {(post, c) for post in range(3) for c in range(n)}) for n in range(9)]
+    yield 'limit: 512 plans, the cheaper choices marked', limited(many, (1, 32, 64), [(marks, m) for marks in low for m in range(4)])
+    one = one_choice(2, [1, 2, 2])
+    yield 'limit: one plan', limited(one, (1, 2, 64), all_ms(all_marks(one), all_marks(one, 0)))
+    deep = tours.book_of_tour_10(44)
+    nine = [marks_at(deep, {(post, 0) for post in range(n)}) for n in range(10)]
+    yield 'limit: up to nine marked choices a day', limited(deep, (1, 2), all_ms(*nine))
+
+
+def maintenance_cases():
+    words = maintenance()
+    marks = marks_at(words, MAINTAIN)
+    for k in (9, 10, 64):
+        yield 'limit: the maintenance example, K %d' % k, limited(words, (k,), all_ms(marks))
+    yield 'limit: the maintenance example, each K, at most one', limited(words, range(1, 13), [(marks, 1)])
+    rest = [int(not mark) for mark in marks]
+    yield 'limit: the maintenance example, all but maintaining', limited(words, (1, 12, 64), all_ms(rest, all_marks(words)))
+
+
+def limit_order_cases():
+    """Of the questions that are answered no the first counts: one of the book, 14, 28, and last 29."""
+    for name, words in (('a plan', DEEP), ('no plan', books.close(DEEP, [(0, 0), (0, 1)]))):
+        at, n = books.Places(words), len(all_marks(words))
+        rows = [([0] * n, 0), ([1] * n, 10), ([2] * n, 0), ([], 2 ** 63)]
+        others = [with_words(words, fault(at)) for fault in FAULTS.values()] + [words[:2], words[:3 + at.stages], words + [0]]
+        assert {ref.check(other) for other in others} == {*range(1, 14)}
+        yield 'limit: books with %s, and each question from 1 to 13' % name, joined(*(limited(other, (0, 1, 65), rows) for other in others))
+        yield 'limit: a book with %s, each K' % name, limited(words, COUNTS, rows)
+
+
+def limit_rows():
+    """On both sides of the questions that changed last: 9 by rows and 8 by depots."""
+    yield from (row for row in row_limits() if row[1].endswith('of 4'))
+    yield from (row for row in depot_limits() if row[0] == 8 and 'depots' == row[1].split()[1] and row[1].split()[0] in ('1', '2', '8', '9'))
+
+
+def limit_question_cases():
+    for question, what, words in limit_rows():
+        marks = all_marks(words) if ref.check(words) == 0 else [1]
+        yield 'limit, question %d: %s' % (question, what), limited(words, (2,), [(marks, 0), (marks, 9), (marks + [0], 9)])
+
+
+def largest_limit_case():
+    """The largest book with depots, each post's first choices marked, or all, or any."""
+    words, rng = largest_with_depots(), random.Random('limit')
+    first_ones = [marks_at(words, {(post, c) for post in range(64) for c in range(n)}) for n in (1, 3, 5)]
+    some = [[rng.randrange(2) for _ in range(512)] for _ in range(2)]
+    rows = [(marks, m) for marks in first_ones + some for m in (0, 2, 3, 4, 5, 6, 9)] + [([1] * 512, 8), ([1] * 512, 9), ([1] * 511, 9), ([1] * 513, 9)]
+    return Case('limit: the largest book', limited(words, (1, 63, 64), rows), True)
+
+
 # ---- all of them
 
 DRAWN = {'small': 6, 'deep': 2, 'wide': 1, 'ties': 5, 'few': 3, 'unreached': 3, 'crossing': 6, 'many': 1, 'edge': 2, 'full': 1, 'faults': 6, 'noise': 8}
@@ -1192,6 +1369,7 @@ DRAWN_CLOSED = {'closed': 6, 'closed_last': 3, 'closed_stage': 3, 'all_closed': 
 DRAWN_DEPOTS = {'depots': 6, 'depots_eight': 3, 'depots_alone': 3, 'depots_and_ties': 5, 'depots_closed': 5, 'depots_unreached': 2, 'depots_wide': 2,
                 'depots_edge': 5, 'nine': 5, 'depots, faults': 10, 'desk, depots': 3}
 DRAWN_FIND = {'find': 40, 'find, faults': 6, 'find, vast': 1}
+DRAWN_LIMIT = {'limit': 40, 'limit, faults': 6, 'limit, vast': 1}
 
 
 def made(*groups):
@@ -1223,6 +1401,9 @@ def stored():
     cases += made(tour_finds(), find_limits(find_limit_rows()), find_order_cases(), find_cases()) + [*largest_find_cases()]
     before = DRAWN, DRAWN_STOPS, DRAWN_ROWS, DRAWN_DESKS, DRAWN_TABLES, DRAWN_CLOSED, DRAWN_DEPOTS
     cases += drawn(DRAWN_FIND, sum(sum(counts.values()) for counts in before))
+    cases += made(limit_book_cases(), limit_fault_cases(), limit_stop_cases(), limit_place_cases(), limit_list_cases(), maintenance_cases(),
+                  limit_order_cases(), limit_question_cases()) + [largest_limit_case()]
+    cases += drawn(DRAWN_LIMIT, sum(sum(counts.values()) for counts in (*before, DRAWN_FIND)))
     return [case._replace(title='%d %s' % (n, case.title)) for n, case in enumerate(cases)]
 
 

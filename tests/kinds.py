@@ -10,7 +10,8 @@ import reference as ref
 import rewards
 import search
 import tables
-from machine import BOOK, OUT, Case, Command, accept, ask, book_bytes, cancel, commit, convert, fill, find, head, opening, page, put, rank, show, value, write
+from machine import (BOOK, OUT, Case, Command, accept, ask, book_bytes, cancel, commit, convert, fill, find, head, limit, opening, page, put, rank, show, value,
+                     write)
 
 MOST_INPUT = machine.PLACES - BOOK + 4
 MOST_ROOM = (BOOK - OUT) // 4    # words before the place of books
@@ -565,6 +566,81 @@ def find_input(rng):
             return found
 
 
+# ---- limits of marked choices
+
+def some_marks(rng, book):
+    """A mark for each choice of the book: few, half, most or all are 1; or those of one choice a post, so that other choices keep a limit of 0."""
+    if rng.random() < 0.2:
+        row = [rng.randrange(n) for n in book.counts]
+        return [int(c == row[post]) for post, c in books.every_choice(book)]
+    share = rng.choice([0.1, 0.3, 0.5, 0.5, 0.8, 1])
+    return [int(rng.random() < share) for _ in books.every_choice(book)]
+
+
+def bent_marks(rng, marks):
+    """Marks of another length, or with a value that is no mark."""
+    marks = [*marks]
+    if rng.random() < 0.5:
+        return rng.choice([[], marks[:-1], marks + [rng.randrange(2)], marks + marks, marks[:rng.randrange(len(marks))]])
+    marks[rng.randrange(len(marks))] = rng.choice([2, 3, 128, 254, 255, rng.randint(2, 255)])
+    return marks
+
+
+def bad_most(rng):
+    return rng.choice([10, 10, 11, 255, 256, 2 ** 32, 2 ** 32 + 1, 2 ** 63, 2 ** 64 - 1])
+
+
+def near_limits(rng, book, listed, marks):
+    """Some m at which a plan of the list begins to keep the limit, and one less; and any from 0 to 9."""
+    found = sorted({ref.most_marked(book, marks, plan) for _, plan in listed})
+    near = {rng.choice(found[:2]), rng.choice(found), max(0, found[0] - 1), max(0, rng.choice(found) - 1)}
+    return sorted({min(9, m) for m in near} | {rng.randint(0, 9)})
+
+
+def some_limits(rng, words, listed, k):
+    """Limits for a book that has plans, of which these are the first: marks that are allowed with m on both sides of what its plans make, then a fault."""
+    book = ref.Book(words)
+    for _ in range(2):
+        marks = some_marks(rng, book)
+        for m in near_limits(rng, book, listed[:k], marks):
+            yield from limit(k, marks, m)
+    yield from limit(k, bent_marks(rng, marks), rng.randint(0, 9))
+    yield from limit(k, rng.choice([marks, bent_marks(rng, marks)]), bad_most(rng))
+
+
+def not_limited(rng, words):
+    """Any marks and m in a book that is refused or has no plan, with counts that are allowed and that are not."""
+    rows = [[], [rng.choice([0, 1, 1, 2]) for _ in range(rng.randint(1, 512))]]
+    if not ref.check(words):
+        rows += [some_marks(rng, ref.Book(words))]
+    for k in (rng.randint(1, 64), rng.choice([1, 64]), bad_count(rng)):
+        for marks in rows:
+            yield from limit(k, marks, rng.choice([0, rng.randint(0, 9), bad_most(rng)]))
+
+
+def limiting(rng, words):
+    """Limits in lists of a few K: also of as many as the book has plans, where "none in the list" and "none in the book" part."""
+    yield from machine.book(words)
+    listed = [] if ref.check(words) else ref.in_order(tuple(words))
+    if not listed:
+        yield from not_limited(rng, words)
+        return
+    for k in sorted({some_count(rng, len(listed)), min(64, len(listed)), min(64, len(listed) + 1)}):
+        yield from some_limits(rng, words, listed, k)
+    marks = some_marks(rng, ref.Book(words))
+    yield from limit(bad_count(rng), rng.choice([marks, bent_marks(rng, marks)]), rng.choice([rng.randint(0, 9), bad_most(rng)]))
+
+
+def limiting_in_vast(rng):
+    """As limiting, in a book that has too many plans to enumerate."""
+    words = vast_book(rng)
+    yield from machine.book(words)
+    with search.instead_of_enumeration():
+        listed = ref.ranking(words, 64)
+        calls = [c for k in (64, rng.randint(1, 63)) for c in some_limits(rng, words, listed, k)] if listed else [*not_limited(rng, words)]
+    yield from calls
+
+
 # ---- which kinds there are
 
 def good_of(shape):
@@ -602,6 +678,15 @@ def finding_faults(rng):
     return finding(rng, some_faults(rng, EVERY))
 
 
+def limiting_any(rng):
+    """As finding_any."""
+    return limiting(rng, books.draw(rng, getattr(books, rng.choices(list(SHAPES), list(SHAPES.values()))[0])))
+
+
+def limiting_faults(rng):
+    return limiting(rng, some_faults(rng, EVERY))
+
+
 SHAPES = {'small': 250, 'deep': 130, 'wide': 56, 'ties': 140, 'few': 150, 'unreached': 80, 'crossing': 110, 'many': 30, 'edge': 80, 'large': 10, 'full': 4,
           'stops': 250, 'stops_each_stage': 100, 'stops_everywhere': 100, 'sure_stops': 80, 'post_0_stops': 60, 'stops_unreached': 50, 'stops_barely': 80,
           'stops_and_ties': 150, 'stops_and_gains': 80, 'stops_deep': 80, 'stops_wide': 50, 'stops_edge': 80, 'stops_many': 20, 'stops_large': 10,
@@ -615,11 +700,12 @@ KINDS.update({'seven': (40, seven), 'vast': (16, vast), 'faults': (120, faults(F
               'bad counts': (60, bad_counts), 'noise': (140, noise), 'forged': (36, forged), 'longest': (4, longest), 'powers': (10, powers),
               'page': (200, some_page), 'desk': (100, desk_from(WITHOUT_CLOSED)), 'desk, closed': (60, desk_from(WITH_CLOSED)), 'convert': (200, conversion),
               'closed, faults': (160, closed_faults), 'nine': (40, nine), 'depots, faults': (120, depot_faults), 'desk, depots': (40, desk_from(WITH_DEPOTS)),
-              'find': (800, finding_any), 'find, faults': (120, finding_faults), 'find, vast': (12, finding_in_vast)})
+              'find': (800, finding_any), 'find, faults': (120, finding_faults), 'find, vast': (12, finding_in_vast),
+              'limit': (700, limiting_any), 'limit, faults': (100, limiting_faults), 'limit, vast': (12, limiting_in_vast)})
 
 
 def make(seed, n, name):
-    return Case('%s:%d %s' % (seed, n, name), list(KINDS[name][1](random.Random('%s:%d' % (seed, n)))), name in ('vast', 'find, vast'))
+    return Case('%s:%d %s' % (seed, n, name), list(KINDS[name][1](random.Random('%s:%d' % (seed, n)))), name in ('vast', 'find, vast', 'limit, vast'))
 
 
 def fresh(seed, n):

@@ -391,7 +391,7 @@ class Marks(unittest.TestCase):
                 found[mark] += 1
             for word in ('closed', 'depot'):
                 found[word] += sum('marked' in line for line in text.split('\n') if word in line)
-        self.assertGreater(min(found.values()), 200, found)
+        self.assertGreater(min(found.values()), 100, found)
 
     def test_plain_words(self):
         """The numbers of all lines marks, wherever they stand among the lines words; any bytes, and as many as are given."""
