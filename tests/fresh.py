@@ -3,7 +3,7 @@
 
     tests/fresh.py [SECONDS] [SEED]     by default 60 seconds and a seed that is drawn
 
-Builds the program `cases` and the five of programs.py first (rt check). Stops at the first difference and prints the seed, the case or the input and what
+Builds the program `cases` and the six of programs.py first (rt check). Stops at the first difference and prints the seed, the case or the input and what
 came; exit status 1. `tests/cases.py show SEED N` prints a case again.
 """
 
@@ -18,7 +18,7 @@ import programs
 
 ROOT = os.path.join(os.path.dirname(os.path.abspath(__file__)), '..')
 PROGRAM = os.path.join(ROOT, 'target', 'bin', 'cases')
-AT_ONCE, INPUTS = 40, 10    # cases, and after them inputs to each of the five programs
+AT_ONCE, INPUTS = 40, 10    # cases, and after them inputs to each of the six programs
 
 
 def run(data):

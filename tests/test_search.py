@@ -10,6 +10,7 @@ import unittest
 sys.path[:0] = [os.path.dirname(os.path.abspath(__file__))]
 
 import books
+import kinds
 import reference as ref
 import search
 
@@ -58,6 +59,20 @@ class Same(unittest.TestCase):
                     answer = ref.find(words, most, slice_)
                     with search.instead_of_enumeration():
                         self.assertEqual(ref.find(words, most, slice_), answer)
+                    found[answer[1]] += 1
+        self.assertGreater(min(found.values()), 60, found)
+
+    def test_limit(self):
+        """Limits on both sides of what plans make, answered by both ways; refused ones too."""
+        found = {answer: 0 for answer in range(4)}
+        for rng, words in self.books(240):
+            book = ref.Book(words)
+            for most in (1, rng.randint(1, 64), 64):
+                marks = kinds.some_marks(rng, book)
+                for m in (0, 1, rng.randint(2, 9), 10):
+                    answer = ref.limit(words, most, marks, m)
+                    with search.instead_of_enumeration():
+                        self.assertEqual(ref.limit(words, most, marks, m), answer)
                     found[answer[1]] += 1
         self.assertGreater(min(found.values()), 60, found)
 
