@@ -1,19 +1,17 @@
 // Request 2.8, "Where is my plan?": from a plan, K and a book, as a program has read them, to the line that says where the plan stands.
 use find::Found;
 ghost use mathlib.Core.Path.{_≡_};
-ghost use Prim.Native.Nat.{_≤_};
-ghost use lib.ListN.{length};
+ghost use Prim.Native.Nat.{_+_, _≤_};
+ghost use lib.ListN.{length, getD};
 ghost use Rattle.model.specs.Page.{planLine, mostLine};
 ghost use Rattle.text.specs.Text.{Appended};
 ghost use Rattle.page_lines.specs.Put.{Put};
-ghost use Rattle.finding.specs.Line.{planEnd, wordOf, foundLine};
+ghost use Rattle.input.specs.Ahead.{endAhead};
+ghost use Rattle.finding.specs.Line.{foundLine};
 ghost use Rattle.finding.specs.Enough.{mostFind};
 
 // The bytes of the input that count: the length of a plan, the longest plan of such a length, and the K and book of any program.
 const MOST_FIND: usize = 16952;
-
-// No line is longer.
-const MOST_LINE: usize = 40;
 
 // Where a program puts what it reads. A shorter one would cut off the word by which a book is too long.
 pub fn buffer() -> [u8; MOST_FIND]
@@ -22,16 +20,9 @@ pub fn buffer() -> [u8; MOST_FIND]
     [0; MOST_FIND]
 }
 
-// Where a program puts its line.
-pub fn line_buffer() -> [u8; MOST_LINE]
-    ensures { λ r. ⌜ length r ≡ mostLine ⌝ }
-{
-    [0; MOST_LINE]
-}
-
 // The index after the plan, whose length the first byte says; 0 where the input ends before it.
 fn plan_end(input: &[u8]) -> usize
-    ensures { λ r. ⌜ r ≡ planEnd (now (input .entry)) ⌝ }
+    ensures { λ r. ⌜ r ≡ endAhead (1 + getD (now (input .entry)) 0 0) (now (input .entry)) ⌝ }
 {
     if input.len() < 1 {
         return 0;
@@ -43,20 +34,6 @@ fn plan_end(input: &[u8]) -> usize
     n + 1
 }
 
-// The word of an answer.
-fn put_word(out: &mut [u8], answer: u32) -> usize
-    requires { ⌜ mostLine ≤ length (now out) ⌝ }
-    ensures { λ r. ⌜ Appended (now (out .entry)) 0 (wordOf answer) (now (out .exit)) r × (r ≤ 5) ⌝ }
-{
-    if answer == 1 {
-        return text::put_text(out, 0, b"rank ");
-    }
-    if answer == 2 {
-        return text::put_text(out, 0, b"more ");
-    }
-    text::put_text(out, 0, b"post ")
-}
-
 // The line of what was found.
 fn put_found(out: &mut [u8], f: Found) -> usize
     requires { ⌜ mostLine ≤ length (now out) ⌝ }
@@ -65,7 +42,7 @@ fn put_found(out: &mut [u8], f: Found) -> usize
     if f.no != 0 {
         return page_lines::put_refused(out, f.no);
     }
-    let a = put_word(out, f.answer);
+    let a = page_lines::put_one_of(out, f.answer, b"rank ", b"more ", b"post ");
     let b = text::put_signed(out, a, f.value);
     text::put_byte(out, b, 10)
 }
@@ -74,7 +51,7 @@ fn put_found(out: &mut [u8], f: Found) -> usize
 pub fn print_place(input: &[u8], out: &mut [u8]) -> usize
     ensures { λ r. ⌜ Put mostLine (planLine (now (input .entry))) (now (out .entry)) (now (out .exit)) r ⌝ }
 {
-    if out.len() < MOST_LINE {
+    if out.len() < page_lines::MOST_LINE {
         return 0;
     }
     let end = plan_end(input);

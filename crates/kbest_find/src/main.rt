@@ -4,7 +4,7 @@
 fn main() {
     let mut input = finding::buffer();
     let n = io::read_full(0, &mut input);
-    let mut out = finding::line_buffer();
+    let mut out = page_lines::line_buffer();
     let m = finding::print_place(&input[..n], &mut out);
     io::write_all(1, &out[..m]);
 }

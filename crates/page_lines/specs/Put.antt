@@ -1,4 +1,5 @@
--- A text at the front of a lent slice that has enough places, nothing in a shorter one; and the line of a refusal in place of what is due.
+-- A text at the front of a lent slice that has enough places, nothing in a shorter one; the line of a refusal in place of what is due; and the text of an
+-- answer.
 -- Assumes nothing.
 use mathlib.Core.Path.{_≡_, refl, sym, ap, _∙_}
 use mathlib.Core.Bool.{Bool, true, false, cond}
@@ -6,8 +7,8 @@ use mathlib.Core.List.{List}
 use Prim.Native.Nat.{ℕ, zero, suc, _≤_, _<_}
 use native.Mathlib.Nat.{zero-add}
 use native.Mathlib.Omega.{arith}
-use borrow.Author.Tests.{le-leb, lt-leb}
-use lib.Dec.{leb}
+use borrow.Author.Tests.{le-leb, lt-leb, eq-eqb, ne-eqb}
+use lib.Dec.{leb, eqb}
 use lib.ListN.{length, take, drop, length-append}
 use lib.Seq.{length-take-le}
 use Rattle.model.specs.Calls.{over}
@@ -58,8 +59,47 @@ module _ {most n : ℕ} (due : List ℕ) {out : List ℕ} (h : most ≤ length o
   pub put-text : {out′ : List ℕ} {r : ℕ} → n ≡ 0 → Appended out 0 due out′ r → Put most (orRefused n due) out out′ r
   put-text e a = put-due e (a .end ∙ zero-add (length due)) (a .text ∙ written-front out (length due) due refl)
 
+-- the text of a number, and where it is 0 what is due
+module _ (n : ℕ) (due : List ℕ) where
+  pub is-refused : (n ≡ 0 → ⊥) → refusedLine n ≡ orRefused n due
+  is-refused h = go n h
+    where
+      go : (m : ℕ) → (m ≡ 0 → ⊥) → refusedLine m ≡ orRefused m due
+      go zero i = absurd (i refl)
+      go (suc m) i = refl
+
+  pub is-due : n ≡ 0 → due ≡ orRefused n due
+  is-due e = rw e
+
 -- the same number, and where it is 0 the same text
 pub put-same : {most m n : ℕ} {due due′ out out′ : List ℕ} {r : ℕ} → m ≡ n → (n ≡ 0 → due ≡ due′) → Put most (orRefused m due) out out′ r
     → Put most (orRefused n due′) out out′ r
 put-same {n = zero} e d p = rw (e, d refl) at p
 put-same {n = suc n} e d p = rw e at p
+
+-- the text of an answer, of those of the answers 1, 2 and 3
+unfoldable pub oneOf : ℕ → List ℕ → List ℕ → List ℕ → List ℕ
+oneOf a t u v = cond (eqb a 1) t (cond (eqb a 2) u v)
+
+module _ (a : ℕ) (t u v : List ℕ) where
+  pub first-of : a ≡ 1 → t ≡ oneOf a t u v
+  unfolding oneOf
+  first-of e = rw (eq-eqb a 1 e)
+
+  pub second-of : (a ≡ 1 → ⊥) → a ≡ 2 → u ≡ oneOf a t u v
+  unfolding oneOf
+  second-of h e = rw (ne-eqb a 1 h, eq-eqb a 2 e)
+
+  pub third-of : (a ≡ 1 → ⊥) → (a ≡ 2 → ⊥) → v ≡ oneOf a t u v
+  unfolding oneOf
+  third-of h i = rw (ne-eqb a 1 h, ne-eqb a 2 i)
+
+  -- it is no longer than the longest
+  pub length-of : {most : ℕ} → length t ≤ most → length u ≤ most → length v ≤ most → length (oneOf a t u v) ≤ most
+  unfolding oneOf
+  length-of {most} h i j = go (eqb a 1) (eqb a 2)
+    where
+      go : (b c : Bool) → length (cond b t (cond c u v)) ≤ most
+      go true c = h
+      go false true = i
+      go false false = j

@@ -1,15 +1,13 @@
 -- The input ends before the plan does, or after it.
 -- Assumes nothing.
-use mathlib.Core.Path.{ap, _∙_}
-use Prim.Native.Nat.{ℕ, _+_}
 use native.Mathlib.Omega.{arith}
 use borrow.Author.Needs.{needs}
-use Rattle.finding.proofs.Plan.{cut-short, whole}
+use Rattle.input.specs.Ahead.{cut-short, whole}
 use Rattle.finding.proofs.plan_end.Statement.{statement}
 use Rattle.finding.proofs.plan_end.Tie as tie
 
 returns : tie.Need-returns
-returns c = cut-short _ (omega arith)
+returns c = cut-short _ _ (omega arith)
 
 shared-slice-read-wide : tie.Need-shared-slice-read-wide
 shared-slice-read-wide c = search needs
@@ -18,15 +16,13 @@ wide-requires : tie.Need-wide-requires
 wide-requires c κs = search needs
 
 returns-2 : tie.Need-returns-2
-returns-2 c = cut-short _ (omega arith)
+returns-2 c = cut-short _ _ (omega arith)
 
 add-result : tie.Need-add-result
 add-result c = search needs
 
 returns-3 : tie.Need-returns-3
-returns-3 c =
-    let w = c .before in
-    ap (λ (n : ℕ). n + 1) (w .wide .ensures .0) ∙ whole _ (omega arith)
+returns-3 c = whole _ _ (omega (arith, c .before .wide .ensures .0)) (omega arith)
 
 pub plan-end-spec : {M : Type 1} → statement M
 plan-end-spec =

@@ -1,12 +1,12 @@
 -- Nothing, the refusal of a plan that is cut short, or the line of what was found.
 -- Assumes nothing.
 use mathlib.Core.Path.{_≡_}
-use Prim.Native.Nat.{suc, _≤_}
+use Prim.Native.Nat.{_+_, _≤_}
 use native.Mathlib.Omega.{arith}
 use lib.ListN.{length, getD}
-use Rattle.model.specs.Page.{planLine, mostLine}
+use Rattle.model.specs.Page.{inputPlan, afterPlan, planNumber, planLine, mostLine}
 use Rattle.page_lines.specs.Put.{too-short, put-refused}
-use Rattle.finding.proofs.Plan.{ends, nothing, plan-is, rest-is}
+use Rattle.input.specs.Ahead.{ends, nothing, part-is, rest-is}
 use Rattle.finding.proofs.Found.{print}
 use borrow.Author.Needs.{needs}
 use Rattle.finding.proofs.print_place.Statement.{statement}
@@ -25,18 +25,18 @@ same-length : tie.Need-same-length
 same-length c = search needs
 
 returns-2 : tie.Need-returns-2
-unfolding planLine
+unfolding planLine planNumber afterPlan
 returns-2 c =
     let y = c .before .before in
     let t = y .before .before in
-    let e = nothing _ (t .before .plan-end .ensures) (t .if2 .taken) in
+    let e = nothing _ _ (t .before .plan-end .ensures) _ (t .if2 .taken) (omega arith) in
     put-refused _ (omega (arith, t .before .before .if1 .left)) 1 e (omega arith) (y .put-refused .ensures)
 
 -- the plan is not cut short
 module _ (c : tie.Else2) where
-  end : (c .before .plan-end .result ≡ suc (getD (c .before .before .before .before .before .args .input .now) 0 0))
+  end : (c .before .plan-end .result ≡ 1 + getD (c .before .before .before .before .before .args .input .now) 0 0)
       × (c .before .plan-end .result ≤ length (c .before .before .before .before .before .args .input .now))
-  end = ends _ (c .before .plan-end .ensures) (c .if2 .left)
+  end = ends _ _ (c .before .plan-end .ensures) (c .if2 .left)
 
 sub-read : tie.Need-sub-read
 sub-read c = omega (arith, end c .1)
@@ -75,13 +75,15 @@ same-length-2 : tie.Need-same-length-2
 same-length-2 c = search needs
 
 returns-3 : tie.Need-returns-3
+unfolding afterPlan inputPlan
 returns-3 c =
     let y = c .before .before in
     let f = y .before .before in
     let r = f .before .before .before .before in
     let e = r .before .before in
     let z = end e .0 in
-    print _ (rest-is _ z) (plan-is _ z) (r .read .ensures) (f .find .ensures) (omega (arith, e .before .before .if1 .left)) (y .put-found .ensures)
+    let input = e .before .before .before .before .before .args .input .now in
+    print input (rest-is _ input z) (part-is 1 _ input z) (r .read .ensures) (f .find .ensures) (omega (arith, e .before .before .if1 .left)) (y .put-found .ensures)
 
 pub print-place-spec : {M : Type 1} → statement M
 print-place-spec =
