@@ -641,6 +641,57 @@ def limiting_in_vast(rng):
     yield from calls
 
 
+# ---- input of the program that says which listed plan keeps a limit
+
+def any_marks(rng, count):
+    """So many, of which few or many are 1."""
+    share = rng.choice([0.1, 0.3, 0.6, 0.9, 1])
+    return bytes(rng.random() < share for _ in range(count))
+
+
+def first_plan_marked(rng, words):
+    """One for each choice of a book that has a plan; often the choices of the first plan are marked and few others, so that a later one keeps the limit."""
+    book, plan = ref.Book(words), ref.in_order(tuple(words))[0][1]
+    if rng.random() < 0.4:
+        return any_marks(rng, sum(book.counts))
+    share = rng.choice([0, 0.1, 0.3, 0.5])
+    return bytes(plan[post] == choice or rng.random() < share for post in range(book.posts) for choice in range(book.counts[post]))
+
+
+def bent_limit(rng, m, marks):
+    """m out of range, or marks of another length or value."""
+    kind = rng.randrange(3)
+    if kind == 0:
+        return rng.choice([10, 11, 255]), marks
+    if kind == 1:
+        return m, marks[1:] if rng.random() < 0.5 else marks + bytes(rng.choice([1, 1, 256, 65535 - len(marks)]))
+    at = rng.randrange(len(marks))
+    return m, marks[:at] + bytes([rng.choice([2, 3, 128, 255])]) + marks[at + 1:]
+
+
+def any_limit(rng):
+    """m, the number of the marks, the marks, K and a book, often one of several plans; or one of them refused, a number that is not that of the marks, or bytes
+    cut off."""
+    data = page_input(rng)
+    if rng.random() < 0.6:
+        words, k = some_plans(rng, EVERY)
+        data = machine.little(k, 4) + book_bytes(words)
+    no, _, words = ref.asked(data)
+    m, marks = rng.choice([0, 1, 1, 2, rng.randrange(10)]), any_marks(rng, rng.choice([0, 3, 300, 65535])) if no else first_plan_marked(rng, words)
+    if marks and rng.random() < 0.08:
+        m, marks = bent_limit(rng, m, marks)
+    count = max(0, min(65535, len(marks) + rng.choice([-1, 1, 4, 256]))) if rng.random() < 0.03 else len(marks)
+    data = bytes([m]) + machine.little(count, 2) + marks + data
+    return data[:rng.randrange(len(data) + 1)] if rng.random() < 0.04 else data
+
+
+def limit_input(rng):
+    while True:
+        found = any_limit(rng)
+        if input_feasible(found[3 + int.from_bytes(found[1:3], 'little'):]):
+            return found
+
+
 # ---- which kinds there are
 
 def good_of(shape):

@@ -1,6 +1,6 @@
 #!/usr/bin/env python3
-"""The five programs in target/bin: kbest and kbest_file, which read K and a book, kbest_page, which reads a record, kbest_find, which reads a plan, K and a
-book, and kbest_table, which reads a planners' table; compared with reference.py and rewards.py.
+"""The six programs in target/bin: kbest and kbest_file, which read K and a book, kbest_page, which reads a record, kbest_find, which reads a plan, K and a
+book, kbest_limit, which reads m, marks, K and a book, and kbest_table, which reads a planners' table; compared with reference.py and rewards.py.
 
     tests/programs.py [COUNT] [SEED]     the edges of what they read, then random inputs to each, by default 300 of seed 1
     tests/programs.py store              writes the stored input and output of their crates; the same on every run
@@ -28,6 +28,7 @@ from machine import book_bytes, little
 
 ROOT = os.path.join(os.path.dirname(os.path.abspath(__file__)), '..')
 ANSWERS = {1: b'rank', 2: b'more', 3: b'post'}
+NONE = {2: b'none in the list\n', 3: b'none in the book\n'}
 
 
 def plan_line(data):
@@ -40,8 +41,19 @@ def plan_line(data):
     return ref.refusal(no) if no else b'%s %d\n' % (ANSWERS[answer], value)
 
 
+def limit_line(data):
+    """m in one byte, how many marks there are in two, the marks, then K and a book: the line that says which listed plan is the first that keeps the limit."""
+    count = int.from_bytes(data[1:3], 'little')
+    no, k, words = ref.asked(data[3 + count:])
+    if no:
+        return ref.refusal(no)
+    no, answer, rank = ref.limit(words, k, data[3:3 + count], data[0])
+    return ref.refusal(no) if no else NONE.get(answer, b'rank %d\n' % rank)
+
+
 PROGRAMS = {'kbest': (ref.page, kinds.page_input), 'kbest_file': (ref.filed, kinds.page_input), 'kbest_page': (ref.record_page, kinds.record_input),
-            'kbest_find': (plan_line, kinds.find_input), 'kbest_table': (rewards.table_book, kinds.table_input)}
+            'kbest_find': (plan_line, kinds.find_input), 'kbest_limit': (limit_line, kinds.limit_input),
+            'kbest_table': (rewards.table_book, kinds.table_input)}
 SLOWLY = 10    # one random input in so many
 PIECES, PAUSE = 12, 0.002
 
@@ -171,6 +183,32 @@ def find_edges():
     yield from (('%d bytes after A' % n, whole + bytes(n)) for n in range(1, 5))
 
 
+def with_limit(m, marks, data):
+    return bytes([m]) + little(len(marks), 2) + bytes(marks) + data
+
+
+def choices(words):
+    return sum(ref.Book(words).counts)
+
+
+def limit_edges():
+    longest, a = longest_input(), little(3, 4) + book_bytes(tours.book_a())
+    for what, words in (('the longest book', cases.largest()), ('the longest book with stops', cases.largest_with_stops())):
+        for m, mark in ((0, 0), (8, 1), (9, 1)):
+            yield from (('%s, K = %d, every mark %d and m = %d' % (what, k, mark, m), with_limit(m, [mark] * choices(words), little(k, 4) + book_bytes(words)))
+                        for k in (1, 64))
+    yield 'the longest book without a plan', with_limit(9, [], little(64, 4) + book_bytes(cases.largest_without_plan()))
+    for count in (0, 456, 65535):
+        yield from (('%d bytes after the longest book and %d marks' % (n, count), with_limit(10, [1] * count, longest + bytes(n)))
+                    for n in (0, 1, 2, 3, 4, 5, 6, 7, 8, 70000))
+    for marks in ((0, 1, 0, 0), (0, 1, 1, 0), (1, 1, 0, 0), (1, 1, 1, 1), (0, 1, 0), (0, 1, 0, 0, 0), (0, 2, 0, 0), (0, 1, 0, 255), ()):
+        yield from (('marks %s in A, m = %d and K = %d' % (marks, m, k), with_limit(m, marks, little(k, 4) + book_bytes(tours.book_a())))
+                    for m in (0, 1, 2, 9, 10, 255) for k in (0, 1, 2, 3, 65))
+    whole = with_limit(1, (0, 1, 1, 0), a)
+    yield from (('the first %d bytes of marks and A' % n, whole[:n]) for n in (*range(16), len(whole) - 1))
+    yield from (('%d bytes after A' % n, whole + bytes(n)) for n in range(1, 5))
+
+
 def longest_table():
     """A table of 4,117 words, all that can be accepted, one word less than is read."""
     return book_bytes(tables.longest(random.Random('longest')))
@@ -188,7 +226,8 @@ def table_edges():
     yield from (('%d bytes after a table' % n, small + bytes(n)) for n in range(1, 5))
 
 
-EDGES = {'kbest': input_edges, 'kbest_file': input_edges, 'kbest_page': record_edges, 'kbest_find': find_edges, 'kbest_table': table_edges}
+EDGES = {'kbest': input_edges, 'kbest_file': input_edges, 'kbest_page': record_edges, 'kbest_find': find_edges, 'kbest_limit': limit_edges,
+         'kbest_table': table_edges}
 
 
 def edge_differs(name, data):
@@ -209,9 +248,11 @@ def edges():
 
 def stored():
     """For each crate its input and output. If kbest or kbest_file read a word less it would accept the book, and if it counted one byte more it would say 1;
-    if kbest_page read a byte less it would accept the record, and if kbest_table read a word less the table. With a word less kbest_find would come to 17."""
+    if kbest_page read a byte less it would accept the record, and if kbest_table read a word less the table. With a word less kbest_find would come to 17, and
+    kbest_limit to 29."""
     inputs = {'kbest': longest_input() + bytes(5), 'kbest_file': longest_input() + bytes(5), 'kbest_page': longest_record(cases.largest()) + bytes(1),
-              'kbest_find': with_plan([0] * 255, longest_input() + bytes(5)), 'kbest_table': longest_table() + bytes(5)}
+              'kbest_find': with_plan([0] * 255, longest_input() + bytes(5)), 'kbest_limit': with_limit(9, [1] * 65535, longest_input() + bytes(5)),
+              'kbest_table': longest_table() + bytes(5)}
     with search.instead_of_enumeration():
         return {name: (data, PROGRAMS[name][0](data)) for name, data in inputs.items()}
 

@@ -91,6 +91,23 @@ def told(words, k, plan):
             'it takes %s %d and that plan a lower one.\n' % (k, value, name, plan[value])).encode()
 
 
+def marked_text(words, marks):
+    """The text of a book, with its marks: `marked` after a choice or a depot, or lines of their own after plain words."""
+    if book.taken_apart(words) is None:
+        return text(words) + b'marks %s\n' % ' '.join(map(str, marks)).encode()
+    left = iter(marks)
+    return b''.join(line + b' marked' * (line.split()[:1] in ([b'choice'], [b'depot']) and next(left)) + b'\n' for line in text(words).splitlines())
+
+
+def kept(words, k, marks, m):
+    """What is said of a limit, by reference.py."""
+    _, answer, rank = ref.limit(words, k, marks, m)
+    over = 'a marked choice' if m == 0 else 'more than 1 marked choice' if m == 1 else 'more than %d marked choices' % m
+    return ('', 'Rank %d is the first plan on the list none of whose days makes %s.\n' % (rank, over),
+            'None in the list: each of the %d plans listed has a day that makes %s. A plan that is not listed may have none.\n' % (k, over),
+            'None in the book: each of its plans has a day that makes %s.\n' % over)[answer].encode()
+
+
 def accepted_books(count, shapes):
     """Random books that pass 1 to 13 and 28, each with a K that is allowed."""
     rng = random.Random('command')
@@ -321,6 +338,59 @@ class Find(Folder):
                 self.expect_reason(run('find', '-', '3', '1 %s -' % word, data=A), 2)
 
 
+class Limit(Folder):
+    """The first plan that keeps a limit, in a book with marks."""
+
+    MARKS = 0, 1, 1, 0
+    MARKED = marked_text(tours.book_a(), MARKS)
+
+    def test_ways(self):
+        """From a file and from standard input; M as a page would print it, and with zeros in front."""
+        said = b'Rank 2 is the first plan on the list none of whose days makes more than 1 marked choice.\n'
+        source = self.file('source', self.MARKED)
+        for most in ('1', '01', '0' * 20 + '1'):
+            self.expect(run('limit', source, '3', most), 0, said)
+            self.expect(run('limit', '-', '3', most, data=self.MARKED), 0, said)
+        self.assertEqual(os.listdir(self.folder), ['source'])
+
+    def test_answers(self):
+        one, two = b'more than 1 marked choice', b'more than 2 marked choices'
+        for k, most, said in ((3, 2, b'Rank 1 is the first plan on the list none of whose days makes %s.\n' % two),
+                              (1, 1, b'None in the list: each of the 1 plans listed has a day that makes %s. A plan that is not listed may have none.\n' % one),
+                              (3, 0, b'None in the book: each of its plans has a day that makes a marked choice.\n')):
+            self.expect(run('limit', '-', str(k), str(most), data=self.MARKED), 0, said)
+            self.assertEqual(kept(tours.book_a(), k, self.MARKS, most), said)
+
+    def test_no_marks(self):
+        """A text without marks marks no choice."""
+        self.expect(run('limit', '-', '3', '0', data=A), 0, b'Rank 1 is the first plan on the list none of whose days makes a marked choice.\n')
+
+    def test_random_books(self):
+        rng, met = random.Random('limit'), set()
+        for words, k in [*accepted_books(8, books.SHAPES), *accepted_books(5, books.WITH_CLOSED), *accepted_books(5, books.WITH_DEPOTS)]:
+            marks = kinds.some_marks(rng, words)
+            for most in (0, 1, rng.randrange(10)):
+                met.add(ref.limit(words, k, marks, most)[1])
+                self.expect(run('limit', '-', str(k), str(most), data=marked_text(words, marks)), 0, kept(words, k, marks, most))
+        self.assertEqual(met, {1, 2, 3})
+
+    def test_refused(self):
+        """29 of M and of marks in lines of their own, and the questions before it."""
+        for most in ('10', '255'):
+            self.expect(run('limit', '-', '3', most, data=self.MARKED), 1, b'refused 29\n', reason(29))
+        plain = book.plain_words(tours.book_a()).encode()
+        for marks in (b'0 1 1', b'0 1 1 0 0', b'0 2 1 0', b'0 ' * 70000):
+            self.expect(run('limit', '-', '3', '1', data=plain + b'marks ' + marks + b'\n'), 1, b'refused 29\n', reason(29))
+        shut = books.close(tours.book_a(), [(1, 0)])
+        for words, k, number in ((tours.book_a(scale=1), 3, 12), (tours.book_a(), 0, 14), (tours.book_a(), 65, 14), (shut, 3, 28), ([2, 1], 3, 1)):
+            self.expect(run('limit', '-', str(k), '10', data=text(words)), 1, b'refused %d\n' % number, reason(number))
+
+    def test_wrong_limits(self):
+        for most in ('x', '', '256', '-1', '+1', '1.0', '9' * 5000, '\u0661', '0x1'):
+            with self.subTest(most=most[:9]):
+                self.expect_reason(run('limit', '-', '3', most, data=A), 2)
+
+
 class RoundTrips(Folder):
     """file, then page, is print; and all three are what reference.py gives."""
 
@@ -418,7 +488,7 @@ class Refusals(Folder):
     def each_verb(self, source, number, *verbs):
         self.file('kept', OLD)
         for verb, *more in verbs:
-            ways = [[]] if verb in ('check', 'find') else [[], ['-o', self.path('none')], ['-o', self.path('kept')]]
+            ways = [[]] if verb in ('check', 'find', 'limit') else [[], ['-o', self.path('none')], ['-o', self.path('kept')]]
             for way in ways:
                 self.expect(run(verb, source, *more, *way), 1, b'' if verb == 'file' else b'refused %d\n' % number, reason(number))
         self.assertEqual(self.content('kept'), OLD)
@@ -433,7 +503,7 @@ class Refusals(Folder):
                 self.expect(run('print', self.path('source'), '3'), 1, b'refused %d\n' % number, reason(number))
 
     def test_files(self):
-        self.each_verb(self.file('source', text(tours.book_a(scale=1))), 12, ('print', '3'), ('file', '3'), ('find', '3', '1 0 -'))
+        self.each_verb(self.file('source', text(tours.book_a(scale=1))), 12, ('print', '3'), ('file', '3'), ('find', '3', '1 0 -'), ('limit', '3', '1'))
 
     def test_counts(self):
         source = self.file('source', A)
@@ -478,6 +548,7 @@ class Wrong(Folder):
         for words in ([], ['-'], ['print', '-'], ['print'], ['file', '-'], ['page'], ['check'], ['page', '-', '3'], ['print', '-', '3', '4'],
                       ['unknown', '-', '3'], ['rewards', '-'], ['rewards', '-', '3', '4'], ['convert', '-', '3'], ['convert'],
                       ['find'], ['find', '-'], ['find', '-', '3'], ['find', '-', '3', '1 0 -', '-o', 'x'],
+                      ['limit'], ['limit', '-'], ['limit', '-', '3'], ['limit', '-', '3', '1', '2'], ['limit', '-', '3', '1', '-o', 'x'],
                       ['check', '--book', '--table', '-'], ['check', '--page', '-'], ['check', '--book', '--record', '-'], ['check', '-', '-o', 'x'],
                       ['print', '-', '3', '-o'], ['-x', '-', '3']):
             with self.subTest(words=words):
@@ -485,6 +556,8 @@ class Wrong(Folder):
 
     def test_counts(self):
         self.wrong('find', '-', '-1', '1 0 -')
+        for count in ('-1', '4294967296'):
+            self.wrong('limit', '-', count, '1')
         for verb, count in (('print', '-1'), ('file', '-1'), ('rewards', '-1'), ('print', 'three'), ('print', '3.0'), ('print', ''), ('print', '+3'),
                             ('print', '4294967296'), ('file', '4294967296'), ('rewards', '4294967296'), ('print', '9' * 5000)):
             with self.subTest(verb=verb, count=count[:20]):
@@ -493,19 +566,20 @@ class Wrong(Folder):
 
     def test_files(self):
         for path in (self.path('none'), self.folder, ''):
-            for words in (['file', path, '3'], ['page', path], ['find', path, '3', '0'], ['rewards', path, '3'], ['convert', path], ['check', path],
-                          [path, '3']):
+            for words in (['file', path, '3'], ['page', path], ['find', path, '3', '0'], ['limit', path, '3', '1'], ['rewards', path, '3'], ['convert', path],
+                          ['check', path], [path, '3']):
                 with self.subTest(words=words):
                     self.wrong(*words)
 
     def test_closed_input(self):
-        for words in (['print', '-', '3'], ['page', '-'], ['find', '-', '3', '0'], ['check', '-']):
+        for words in (['print', '-', '3'], ['page', '-'], ['find', '-', '3', '0'], ['limit', '-', '3', '1'], ['check', '-']):
             done = subprocess.run(['sh', '-c', 'exec "$@" <&-', 'sh', *PYTHON, KBEST, *words], capture_output=True)
             self.expect_reason(done, 2)
 
     def test_texts(self):
         for data in (b'', b'scale 2\nplace 0\n', b'scale 2\n\xff', A_3, b'scale ' + b'9' * 5000, A + b'stop weight 2\n'):
             self.wrong('find', '-', '3', '0', data=data)
+            self.wrong('limit', '-', '3', '1', data=data)
             for verb in ('print', 'file'):
                 with self.subTest(verb=verb, data=data[:20]):
                     self.wrong(verb, '-', '3', '-o', self.path('none'), data=data)
@@ -653,8 +727,8 @@ class Written(Folder):
 # ---- the first run, with an acted toolchain
 
 CRATES = '# a comment: not a crate\nlaws:\npage: laws io    # io is a library\nother: laws\n\nkbest: page io\nkbest_file: page io\nkbest_page: page io\n\
-kbest_find: page io\nkbest_table: laws io\n'
-NEEDED = 'laws', 'page', 'kbest', 'kbest_file', 'kbest_page', 'kbest_find', 'kbest_table'
+kbest_find: page io\nkbest_limit: page io\nkbest_table: laws io\n'
+NEEDED = 'laws', 'page', 'kbest', 'kbest_file', 'kbest_page', 'kbest_find', 'kbest_limit', 'kbest_table'
 PROGRAM = '#!/bin/sh\ncat >/dev/null\necho made\n'
 RT = '''#!/bin/sh
 echo "$*" >>calls
@@ -719,7 +793,7 @@ class FirstRun(Folder):
     def test_silent_and_once(self):
         self.made()
         self.made()
-        self.assertEqual(self.calls(), ['check kbest kbest_file kbest_page kbest_find kbest_table'])
+        self.assertEqual(self.calls(), ['check kbest kbest_file kbest_page kbest_find kbest_limit kbest_table'])
         self.assertIn(b'logic=proved', self.content('target/kbest.log'))
 
     def test_each_program(self):
@@ -728,12 +802,15 @@ class FirstRun(Folder):
         self.expect_reason(run('find', '-', '3', '1 0 -', data=A, **self.how()), 3)    # which is no answer
         self.file('target/bin/kbest_find', b'#!/bin/sh\ncat >/dev/null\necho rank 7\n')
         self.expect(run('find', '-', '3', '1 0 -', data=A, **self.how()), 0, b'Your plan is rank 7 on the list.\n')
+        self.expect_reason(run('limit', '-', '3', '1', data=A, **self.how()), 3)
+        self.file('target/bin/kbest_limit', b'#!/bin/sh\ncat >/dev/null\necho none in the book\n')
+        self.expect(run('limit', '-', '3', '0', data=A, **self.how()), 0, b'None in the book: each of its plans has a day that makes a marked choice.\n')
 
     def test_terminal(self):
         shown, status, out = on_terminal(['stderr'], ['-', '3'], data=A, **self.how())
         self.assertEqual((status, out), (0, b'made\n'))
         said = b'proving and building the programs (some minutes, once): '
-        self.assertEqual(shown, b''.join(b'\r' + said + b'%d of 7 crates' % n for n in range(8)) + b'\r\n')
+        self.assertEqual(shown, b''.join(b'\r' + said + b'%d of 8 crates' % n for n in range(9)) + b'\r\n')
         self.assertEqual(on_terminal(['stderr'], ['-', '3'], data=A, **self.how()), (b'', 0, b'made\n'))
 
     def test_unchanged_crates_count(self):
@@ -745,7 +822,7 @@ class FirstRun(Folder):
         shown, status, _ = on_terminal(['stderr'], ['-', '3'], data=A, **self.how())
         self.assertEqual(status, 0)
         self.assertIn(b'unchanged', self.content('target/kbest.log'))
-        self.assertTrue(shown.endswith(b': 7 of 7 crates\r\n'))
+        self.assertTrue(shown.endswith(b': 8 of 8 crates\r\n'))
         self.made()
         self.assertEqual(len(self.calls()), 2)
 
@@ -792,7 +869,7 @@ class FirstRun(Folder):
             shown, status, out = on_terminal(['stderr'], ['-', '3'], data=A, **self.how(act))
             self.assertEqual((status, out), (3, b''))
             self.assertIn(why, shown)
-            self.assertIn(b'%d of 7 crates\r\n' % (act == 'fail'), shown)
+            self.assertIn(b'%d of 8 crates\r\n' % (act == 'fail'), shown)
         self.assertFalse(os.path.exists(self.path('page')))
         self.made()
 

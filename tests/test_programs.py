@@ -1,5 +1,5 @@
 #!/usr/bin/env python3
-"""The stored input and output of the five programs are those that programs.py makes, and reference.py gives one page for a book and for its record. Run:
+"""The stored input and output of the six programs are those that programs.py makes, and reference.py gives one page for a book and for its record. Run:
 python3 tests/test_programs.py"""
 
 import collections
@@ -35,7 +35,8 @@ class Stored(unittest.TestCase):
     def test_lengths(self):
         """One byte more than is read, or as much as is read, and what is one word or one byte shorter is accepted: the stored input finds the bounds."""
         self.assertEqual({name: len(data) for name, (data, _) in self.stored.items()}, {'kbest': 16697, 'kbest_file': 16697, 'kbest_page': 21309,
-                                                                                             'kbest_find': 16953, 'kbest_table': 16473})
+                                                                                             'kbest_find': 16953, 'kbest_limit': 82235,
+                                                                                             'kbest_table': 16473})
         with search.instead_of_enumeration():
             for name, short in (('kbest', 16692), ('kbest_file', 16692), ('kbest_page', 21308), ('kbest_table', 16468)):
                 data, out = self.stored[name]
@@ -43,6 +44,8 @@ class Stored(unittest.TestCase):
                 self.assertFalse(programs.PROGRAMS[name][0](data[:short]).startswith(REFUSED))
             data, out = self.stored['kbest_find']
             self.assertEqual((out, programs.plan_line(data[:16948])), (b'refused 7\n', b'refused 17\n'))
+            data, out = self.stored['kbest_limit']
+            self.assertEqual((out, programs.limit_line(data[:82230])), (b'refused 7\n', b'refused 29\n'))
 
 
 class ByHand(unittest.TestCase):
@@ -54,6 +57,15 @@ class ByHand(unittest.TestCase):
                                        (9, 1, (0, 0, 255), b'refused 17\n'), (8, 1, (0, 0, 0), b'rank 1\n'), (8, 1, (1, 0, 255), b'post 0\n')):
             book = programs.book_bytes(tours.book_a(closing=closing))
             self.assertEqual(programs.plan_line(programs.with_plan(plan, k.to_bytes(4, 'little') + book)), line)
+
+    def test_limits(self):
+        """Which plan of A keeps a limit, as docs/FORMAT.md works it out; with the book's bytes from the record that it shows."""
+        book = ref.record(tours.book_a(), 3)[12:100]
+        self.assertEqual(programs.limit_line(b'\1\4\0\0\1\1\0' + b'\3\0\0\0' + book), b'rank 2\n')
+        for marks, m, k, line in (((0, 1, 1, 0), 2, 3, b'rank 1\n'), ((0, 1, 1, 0), 1, 1, b'none in the list\n'), ((0, 1, 1, 0), 0, 3, b'none in the book\n'),
+                                  ((0, 1, 1, 0), 0, 2, b'none in the list\n'), ((0, 0, 0, 1), 0, 3, b'rank 1\n'), ((0, 1, 1), 1, 3, b'refused 29\n'),
+                                  ((0, 1, 2, 0), 1, 3, b'refused 29\n'), ((0, 1, 1, 0), 10, 3, b'refused 29\n'), ((0, 1, 1, 0), 10, 0, b'refused 14\n')):
+            self.assertEqual(programs.limit_line(programs.with_limit(m, marks, k.to_bytes(4, 'little') + book)), line)
 
 
 class Same(unittest.TestCase):
@@ -77,7 +89,7 @@ class Same(unittest.TestCase):
         """The random inputs find every number that a program can give, and an answer that is no refusal."""
         book = {*range(1, 15), 28}
         for draw, answer, numbers in ((kinds.page_input, ref.page, book), (kinds.record_input, ref.record_page, book | {19, 20, 21}),
-                                      (kinds.find_input, programs.plan_line, book | {17}),
+                                      (kinds.find_input, programs.plan_line, book | {17}), (kinds.limit_input, programs.limit_line, book | {29}),
                                       (kinds.table_input, rewards.table_book, {4, 6, 9, 11, 12, 13, 25, 26})):
             rng = random.Random('numbers')
             found = {answer(draw(rng)) for _ in range(1200)}
@@ -85,11 +97,13 @@ class Same(unittest.TestCase):
             self.assertTrue(any(not out.startswith(REFUSED) for out in found))
 
     def test_answers(self):
-        """Random input meets each answer of where a plan stands often."""
-        rng, met = random.Random('answers'), collections.Counter()
-        met.update(programs.plan_line(kinds.find_input(rng)).split()[0] for _ in range(400))
-        self.assertEqual(set(met), {b'refused', b'rank', b'more', b'post'})
-        self.assertGreater(min(met.values()), 30, met)
+        """Random input meets each answer often: of where a plan stands, and of which plan keeps a limit."""
+        for draw, answer, texts in ((kinds.find_input, programs.plan_line, {b'refused', b'rank', b'more', b'post'}),
+                                    (kinds.limit_input, programs.limit_line, {b'refused', b'rank', b'none in the list', b'none in the book'})):
+            rng, met = random.Random('answers'), collections.Counter()
+            met.update(answer(draw(rng)).rstrip(b' 0123456789\n') for _ in range(400))
+            self.assertEqual(set(met), texts)
+            self.assertGreater(min(met.values()), 30, met)
 
 
 if __name__ == '__main__':
