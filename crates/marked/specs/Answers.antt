@@ -116,7 +116,7 @@ module _ (ws : Words) (ok : bookNumber ws ≡ 0) (K : ℕ) (limit : Limit) where
       go (yes l) d = subst (Fits ws K limit) (sym (rank-answer l)) (stands l)
       go (no n) (yes f) =
           subst (Fits ws K limit) (sym (book-answer (omega arith) f))
-          (record { short = f; none = λ q t. none-of-list (omega arith) q (none-missing ws ok K q f t) })
+          (record { short = omega (arith, f); none = λ q t. none-of-list (omega arith) q (none-missing ws ok K q f t) })
       go (no n) (no f) =
           subst (Fits ws K limit) (sym (list-answer (omega arith) (omega arith)))
           (record { full = omega (arith, list-length ws ok K); none = none-of-list (omega arith) })
@@ -143,7 +143,7 @@ module _ (ws : Words) (ok : bookNumber ws ≡ 0) (K : ℕ) (limit : Limit) where
   no-other : (a : Kept) → Fits ws K limit a → a ≡ firstKept ws K limit
   no-other (keptAt j) h = let s = same-place j h in ap (λ (n : ℕ). keptAt n) (sym (s .1)) ∙ sym (rank-answer (s .0))
   no-other noneListed h = sym (list-answer (after-end (h .none)) (omega (arith, h .full)))
-  no-other noneInBook h = sym (book-answer (after-end (λ q i. h .none q (in-list ws ok K q .0 i .0))) (h .short))
+  no-other noneInBook h = sym (book-answer (after-end (λ q i. h .none q (in-list ws ok K q .0 i .0))) (omega (arith, h .short)))
 
   -- an answer is true exactly if it is the one given
   pub exactly-one : (a : Kept) → Fits ws K limit a ↔ (a ≡ firstKept ws K limit)

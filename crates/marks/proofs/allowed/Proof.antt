@@ -1,9 +1,10 @@
 -- The length, the values, m.
 -- Assumes nothing.
-use mathlib.Core.Path.{_≡_, sym, _∙_}
+use mathlib.Core.Path.{_≡_, _∙_}
 use mathlib.Core.Bool.{true, false}
 use mathlib.Core.List.{List}
 use Prim.Native.Nat.{ℕ}
+use native.Mathlib.Omega.{arith}
 use borrow.Author.Needs.{needs}
 use borrow.Author.Tests.{eq-eqb, ne-eqb}
 use lib.Dec.{leb}
@@ -34,7 +35,7 @@ action-total-requires c κs = search needs
 
 returns : tie.Need-returns
 returns c =
-    other-length _ _ _ (λ e. c .if1 .taken (e ∙ sym (c .before .action-total .ensures)))
+    other-length _ _ _ (λ e. omega (arith, e, c .before .action-total .ensures, c .if1 .taken))
 
 all-marks-requires : tie.Need-all-marks-requires
 all-marks-requires c κs = search needs
