@@ -491,6 +491,48 @@ fn found(words: &[i32], k: usize, plan: &[u8]) -> Result<(u32, i64), u32> {
     Ok((3, last.iter().zip(plan).take_while(|(a, b)| a == b).count() as i64))
 }
 
+/// The number; then 1, the plan of this rank is the first that keeps the limit, 2, none in the list does, or 3, none in the book.
+pub fn limit(words: &[i32], k: usize, marks: &[u8], m: usize) -> (u32, u32, usize) {
+    limited(words, k, marks, m).map_or_else(|no| (no, 0, 0), |(answer, rank)| (0, answer, rank))
+}
+
+fn limited(words: &[i32], k: usize, marks: &[u8], m: usize) -> Result<(u32, usize), u32> {
+    let book = asked(words, k)?;
+    let t = Solved::new(&book);
+    if !t.has_plan() {
+        return Err(28);
+    }
+    let (mut firsts, mut choices) = ([0; POSTS], 0);
+    for (first, &count) in firsts.iter_mut().zip(book.counts) {
+        *first = choices;
+        choices += count as usize;
+    }
+    if marks.len() != choices || marks.iter().any(|&mark| mark > 1) || m > 9 {
+        return Err(29);
+    }
+    let (mut costs, mut plans) = ([0; PLANS], [0; PLANS * POSTS]);
+    let n = list(&book, &t, k, &mut costs, &mut plans);
+    let mut listed = plans[..n * book.s].chunks_exact(book.s);
+    match listed.position(|plan| most_marked(&book, &t, &firsts, marks, plan) as usize <= m) {
+        Some(j) => Ok((1, j + 1)),
+        None => Ok((if n == k { 2 } else { 3 }, 0)),
+    }
+}
+
+/// The most marked choices that a day of a plan makes. A day that stops makes no more than those that go on.
+fn most_marked(book: &Book, t: &Solved, firsts: &[usize; POSTS], marks: &[u8], plan: &[u8]) -> u8 {
+    let mut most = [0; POSTS];
+    for (p, &c) in plan.iter().enumerate().rev() {
+        if c == NOT_REACHED {
+            continue;
+        }
+        let (line, base) = (t.lines[p][c as usize] as usize, t.base[p] as usize);
+        let nexts = &book.left[line + 1..line + 1 + book.left[line] as usize];
+        most[p] = nexts.iter().fold(0, |high, &q| most[base + q as usize].max(high)) + marks[firsts[p] + c as usize];
+    }
+    most[0]
+}
+
 pub fn write(words: &[i32], k: usize, record: &mut [u8]) -> (u32, usize) {
     let book = match asked(words, k) {
         Ok(book) => book,

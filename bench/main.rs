@@ -3,7 +3,7 @@
 
 mod baseline;
 
-use kbest::Standing;
+use kbest::{Kept, Standing};
 use std::hint::black_box;
 use std::time::Instant;
 
@@ -212,9 +212,15 @@ fn number<T>(answer: Result<T, kbest::Refused>, none: T) -> (u32, T) {
     answer.map_or_else(|r| (r.number(), none), |t| (0, t))
 }
 
-/// `finds` counts what finding gives: refusals, and each of the three answers.
-fn assert_equal(book: &[i32], finds: &mut [usize; 4]) {
-    let sought = sought(book);
+/// What finding and keeping a limit have given: refusals, and each of the three answers.
+#[derive(Default)]
+struct Given {
+    finds: [usize; 4],
+    limits: [usize; 4],
+}
+
+fn assert_equal(book: &[i32], given: &mut Given) {
+    let (sought, limits) = (sought(book), limits(book));
     let mut no = number(kbest::check(book), ()).0;
     assert_eq!(no, baseline::check(book), "check of {book:?}");
     assert_eq!(number(kbest::least(book), 0), baseline::least(book), "least of {book:?}");
@@ -227,7 +233,12 @@ fn assert_equal(book: &[i32], finds: &mut [usize; 4]) {
         for plan in &sought {
             let found = find_library(book, k, plan);
             assert_eq!(found, baseline::find(book, k, plan), "find of {plan:?} in {book:?}");
-            finds[found.1 as usize] += 1;
+            given.finds[found.1 as usize] += 1;
+        }
+        for (marks, m) in &limits {
+            let kept = limit_library(book, k, marks, *m);
+            assert_eq!(kept, baseline::limit(book, k, marks, *m), "at most {m} of {marks:?} in {book:?}");
+            given.limits[kept.1 as usize] += 1;
         }
         let written = number(kbest::write(book, k, &mut a.record), 0);
         assert_eq!(written, baseline::write(book, k, &mut b.record), "write of {book:?}");
@@ -309,6 +320,38 @@ fn find_library(book: &[i32], k: usize, plan: &[u8]) -> (u32, u32, i64) {
     }
 }
 
+/// How many choices an accepted book has.
+fn choices(book: &[i32]) -> usize {
+    let counts = 4 + book[1] as usize;
+    book[counts..counts + posts(book)].iter().sum::<i32>() as usize
+}
+
+/// Marks and m: every choice, none, every other and every third, with m at both ends and between; then marks of a wrong length or value, and m out of range.
+/// Any bytes where the book is refused.
+fn limits(book: &[i32]) -> Vec<(Vec<u8>, usize)> {
+    if kbest::check(book).is_err() {
+        return vec![(vec![], 0), (vec![1; 3], 1)];
+    }
+    let (n, h) = (choices(book), book[1] as usize);
+    let every = |step: usize| (0..n).map(|i| (i % step == 0) as u8).collect::<Vec<u8>>();
+    let mut limits = vec![(vec![0; n], 0), (vec![1; n], h), (vec![1; n], 9)];
+    limits.extend([(2, 0), (2, 1), (3, 0), (3, 1), (3, h / 2)].map(|(step, m)| (every(step), m)));
+    let mut wrong = every(2);
+    wrong[n / 2] = 2;
+    limits.extend([(vec![0; n + 1], 1), (vec![0; n - 1], 1), (wrong, 1), (every(2), 10), (every(2), usize::MAX)]);
+    limits
+}
+
+/// The number, which of the three answers, and the rank.
+fn limit_library(book: &[i32], k: usize, marks: &[u8], m: usize) -> (u32, u32, usize) {
+    match kbest::limit(book, k, marks, m) {
+        Err(refused) => (refused.number(), 0, 0),
+        Ok(Kept::Rank(rank)) => (0, 1, rank),
+        Ok(Kept::NoneInList) => (0, 2, 0),
+        Ok(Kept::NoneInBook) => (0, 3, 0),
+    }
+}
+
 /// Values the plans of a list, each as listed and with one byte changed.
 fn assert_equal_values(book: &[i32], plans: &mut [u8], listed: usize) {
     if listed == 0 {
@@ -326,7 +369,7 @@ fn assert_equal_values(book: &[i32], plans: &mut [u8], listed: usize) {
 
 /// How many books were compared; the choices of half of them may stop, and `closed` of 100 choices are closed. Then some have a plan and some have none. A post
 /// of the last stage has up to `most_depots` choices.
-fn assert_small_books(rng: &mut Random, closed: i32, most_depots: i32, finds: &mut [usize; 4]) -> usize {
+fn assert_small_books(rng: &mut Random, closed: i32, most_depots: i32, given: &mut Given) -> usize {
     let (mut compared, mut without_plan) = (0, 0);
     for round in 0..800 {
         let stops = if round % 2 == 0 { 0 } else { 50 };
@@ -337,14 +380,14 @@ fn assert_small_books(rng: &mut Random, closed: i32, most_depots: i32, finds: &m
         let mut book = random_book(rng, &shape);
         assert_eq!(kbest::check(&book), Ok(()), "a book that is not spoiled is accepted: {book:?}");
         without_plan += kbest::least(&book).is_err() as i32;
-        assert_equal(&book, finds);
+        assert_equal(&book, given);
         let at = rng.from(0, book.len() as i32 - 1) as usize;
         book[at] += rng.from(-2, 2);
-        assert_equal(&book, finds);
+        assert_equal(&book, given);
         compared += 2;
         if round % 8 < 2 {
             book.truncate(at);
-            assert_equal(&book, finds);
+            assert_equal(&book, given);
             compared += 1;
         }
     }
@@ -566,6 +609,30 @@ fn find_table(books: &[(&str, Vec<i32>)], without_plan: &[(&str, Vec<i32>)]) {
     }
 }
 
+/// The same for a limit with every choice marked. First m = H in the lists of 1, 8 and 64: a day that does not stop makes one choice more, so every listed plan
+/// is looked at and none keeps the limit. Then m = 9 in the list of 64: the first plan keeps it.
+fn limit_ratios(name: &str, book: &[i32]) {
+    let (marks, h) = (vec![1; choices(book)], book[1] as usize);
+    let row = [(1, h), (8, h), (64, h), (64, 9)].map(|(k, m)| {
+        let (no, answer, rank) = limit_library(book, k, &marks, m);
+        assert!(no == 28 || if m == 9 { rank == 1 } else { answer != 1 }, "the limit {m} in {name}");
+        let library = || kbest::limit(black_box(book), black_box(k), black_box(&marks), black_box(m));
+        ratio(library, || baseline::limit(black_box(book), black_box(k), black_box(&marks), black_box(m)))
+    });
+    println!("{name:29} {}", row.map(|r| format!("{r:8.2}")).join(" "));
+}
+
+fn limit_table(books: &[(&str, Vec<i32>)], without_plan: &[(&str, Vec<i32>)]) {
+    println!("\nthe first plan with at most m marked choices, library time / Rust time");
+    println!("{:29} {:>8} {:>8} {:>8} {:>8}", "", "none 1", "none 8", "none 64", "first 64");
+    for (name, book) in books {
+        limit_ratios(&format!("{name}, {} lines", book[2]), book);
+    }
+    for (name, book) in without_plan {
+        limit_ratios(&format!("no plan ({name}), {} lines", book[2]), book);
+    }
+}
+
 /// The same for the calls that refuse a book without a plan. The record is one that says it lists a plan.
 fn refusal_ratios(name: &str, book: &[i32]) {
     let (mut a, mut b) = (Room::new(), Room::new());
@@ -659,16 +726,17 @@ fn only(words: &[String], books: &[(&str, Vec<i32>)]) {
     let book = &books.iter().find(|(name, _)| name.starts_with(&words[1])).expect("a book of that name").1;
     let (k, repeats) = (words[2].parse().expect("K"), words[3].parse().expect("repeats"));
     let mut room = Room::new();
-    let plan = first_plan(book);
+    let (plan, marks) = (first_plan(book), vec![1; choices(book)]);
     for _ in 0..repeats {
         let answer = match words[0].as_str() {
             "check" => check_library(book) as usize,
             "value" => kbest::value(black_box(book), black_box(&plan)).is_ok() as usize,
             "least" => kbest::least(black_box(book)).is_ok() as usize,
             "find" => kbest::find(black_box(book), black_box(k), black_box(&plan)).is_ok() as usize,
+            "limit" => kbest::limit(black_box(book), black_box(k), black_box(&marks), book[1] as usize).is_ok() as usize,
             "rank" => rank_library(book, k, &mut room),
             "rust" => rank_rust(book, k, &mut room),
-            _ => panic!("check, value, least, find, rank or rust"),
+            _ => panic!("check, value, least, find, limit, rank or rust"),
         };
         black_box(answer);
     }
@@ -694,26 +762,29 @@ fn main() {
     if !words.is_empty() {
         return only(&words, &books);
     }
-    let (by_lines, mut finds) = (books_by_lines(&mut rng), [0; 4]);
+    let (by_lines, mut given) = (books_by_lines(&mut rng), Given::default());
     for book in books.iter().map(|(_, b)| b).chain(by_lines.iter().map(|(_, b)| b)) {
         assert_eq!(kbest::check(book), Ok(()), "a timed book is accepted");
-        assert_equal(book, &mut finds);
+        assert_equal(book, &mut given);
     }
     let record = record_of(&books[2].1);
     for (_, book) in &refused {
-        assert_equal(book, &mut finds);
+        assert_equal(book, &mut given);
     }
-    let (small, calls) = (assert_small_books(&mut rng, 0, 1, &mut finds), assert_equal_desks(&mut rng, &record));
-    let closed = assert_small_books(&mut Random(521288629), 35, 1, &mut finds);
-    let depots = assert_small_books(&mut Random(141421356), 0, 8, &mut finds) + assert_small_books(&mut Random(577215664), 35, 8, &mut finds);
+    let (small, calls) = (assert_small_books(&mut rng, 0, 1, &mut given), assert_equal_desks(&mut rng, &record));
+    let closed = assert_small_books(&mut Random(521288629), 35, 1, &mut given);
+    let depots = assert_small_books(&mut Random(141421356), 0, 8, &mut given) + assert_small_books(&mut Random(577215664), 35, 8, &mut given);
+    let Given { finds, limits } = given;
     assert!(finds.iter().all(|&n| n > 1000), "refusals and answers of finding: {finds:?}");
+    assert!(limits.iter().all(|&n| n > 1000), "refusals and answers of limits: {limits:?}");
     let tables = [("small", TABLE.to_vec()), ("typical", typical_table(&mut rng)), ("largest", largest_table(&mut rng))];
     for (_, table) in &tables {
         assert_eq!(assert_equal_books(table, kbest::BOOK_MOST).0, 0, "a timed table is accepted");
     }
     let (random, powers) = (assert_random_tables(&mut rng), assert_equal_powers());
     println!("equal results on the timed books and tables, on {small} small books, {closed} with closed choices and {depots} with depots, in {calls} calls at");
-    println!("a desk, on {random} random tables, for {powers} powers and in {} finds\n", finds.iter().sum::<usize>());
+    let (finds, limits): (usize, usize) = (finds.iter().sum(), limits.iter().sum());
+    println!("a desk, on {random} random tables, for {powers} powers, in {finds} finds and for {limits} limits\n");
 
     println!("library time / Rust time");
     println!("{:28} {:>7} {:>7} {:>7} {:>8} {:>8} {:>8} {:>8} {:>8}", "", "check", "value", "least", "rank 1", "rank 8", "rank 64", "write 64", "accept");
@@ -728,6 +799,7 @@ fn main() {
     }
 
     find_table(&books, &refused);
+    limit_table(&books, &refused);
 
     println!("\nat a desk, library time / Rust time");
     println!("{:28} {:>7} {:>7} {:>8} {:>8} {:>8} {:>8}", "", "open", "ask", "refused", "cancel", "commit", "held");

@@ -1,4 +1,5 @@
-/* example FILE: lists the three best plans of a book, says where plans stand, files the record in FILE, reads the file again and prints what it lists. */
+/* example FILE: lists the three best plans of a book, says where plans stand and which keep a limit, files the record in FILE, reads the file again and prints
+ * what it lists. */
 #include <errno.h>
 #include <stdio.h>
 #include <string.h>
@@ -16,6 +17,7 @@ static const int32_t BOOK[] = {
 };
 #define WORDS (sizeof BOOK / sizeof BOOK[0])
 #define POSTS 3
+#define CHOICES 4
 
 static int refused(uint32_t number) {
     fprintf(stderr, "refused %u: %s\n", number, kbest_question(number));
@@ -84,6 +86,29 @@ static int find(void) {
     return print_standing(BOOK, ASKED, SECOND) || print_standing(BOOK, 1, SECOND) || print_standing(tied, 1, FIRST);
 }
 
+/* The first of the k best plans none of whose days makes more than m marked choices. */
+static int print_kept(size_t k, const uint8_t marks[CHOICES], size_t m) {
+    uint32_t answer;
+    size_t rank;
+    uint32_t no = kbest_limit(BOOK, WORDS, k, marks, CHOICES, m, &answer, &rank);
+    if (no != KBEST_ACCEPTED)
+        return refused(no);
+    printf("at most %zu marked, of %zu: ", m, k);
+    if (answer == KBEST_KEPT)
+        printf("rank %zu\n", rank);
+    else if (answer == KBEST_NONE_IN_LIST)
+        printf("none in the list\n");
+    else
+        printf("none in the book\n");
+    return 0;
+}
+
+/* The choice that the first plan takes at post 0 is marked: the second keeps off it. Then every choice is, and every day makes two. */
+static int limit(void) {
+    static const uint8_t ONE[CHOICES] = {0, 1, 0, 0}, ALL[CHOICES] = {1, 1, 1, 1};
+    return print_kept(ASKED, ONE, 0) || print_kept(1, ONE, 0) || print_kept(ASKED, ALL, 1);
+}
+
 static int file_record(const char *path) {
     uint8_t record[KBEST_RECORD_MOST];
     size_t length;
@@ -143,7 +168,7 @@ int main(int count, char **words) {
         return 2;
     }
     printf("check %u, of two words %u\n", kbest_check(BOOK, WORDS), kbest_check(BOOK, 2));
-    if (list() != 0 || find() != 0 || file_record(words[1]) != 0)
+    if (list() != 0 || find() != 0 || limit() != 0 || file_record(words[1]) != 0)
         return 1;
     return print_record(words[1]);
 }

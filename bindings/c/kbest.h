@@ -29,8 +29,8 @@ extern "C" {
 #endif
 
 /* The version of this header, as text and as a number: the first x 10,000 + the second x 100 + the third. */
-#define KBEST_VERSION_TEXT "1.7.0"
-#define KBEST_VERSION 10700
+#define KBEST_VERSION_TEXT "1.8.0"
+#define KBEST_VERSION 10800
 
 /* The version of the library that is linked, as a number. */
 uint32_t kbest_version(void);
@@ -84,7 +84,8 @@ enum {
     KBEST_TABLE_SIZES = 25,
     KBEST_TABLE_LINES = 26,
     KBEST_BOOK_ROOM = 27,
-    KBEST_NO_PLAN = 28
+    KBEST_NO_PLAN = 28,
+    KBEST_LIMIT = 29
 };
 
 /* The questions. Each call asks some of them in the order that it states, and each is put to the whole input before the next. Any other number gives an
@@ -124,6 +125,7 @@ static inline const char *kbest_question(uint32_t number) {
                "has each closing line its 0, and is every reward from -100,000 to 100,000?";
     case KBEST_BOOK_ROOM: return "does the lent array hold the book?";
     case KBEST_NO_PLAN: return "has the book a plan?";
+    case KBEST_LIMIT: return "is there one mark, 0 or 1, for each choice of the book, and is m from 0 to 9?";
     default: return "";
     }
 }
@@ -160,6 +162,22 @@ enum {
  *   the last listed plan takes the lower choice there.
  * A list of fewer than k plans has every plan of the book, so the last two come with a list of k plans only. In a book that has no plan every array gets 28. */
 uint32_t kbest_find(const int32_t *book, size_t words, size_t k, const uint8_t *plan, size_t bytes, uint32_t *answer, int64_t *value);
+
+/* What kbest_limit says of a list. */
+enum {
+    KBEST_KEPT = 1,
+    KBEST_NONE_IN_LIST = 2,
+    KBEST_NONE_IN_BOOK = 3
+};
+
+/* The first plan none of whose days makes more than m marked choices, in the list that kbest_rank gives for the same book and k: questions 1 to 14, then 28 and
+ * 29. `marks` has one byte, 1 or 0, for each choice of the book in the book's order, closed ones and those at stage H too; m is from 0 to 9. A day that stops
+ * counts the choices made. *answer says which of the three is true:
+ * - KBEST_KEPT: plan *rank of the list, from 1, is the first that keeps the limit, so it is plan *rank - 1 of kbest_rank;
+ * - KBEST_NONE_IN_LIST: k plans are listed and none of them keeps the limit. Of the plans that are not listed nothing is said;
+ * - KBEST_NONE_IN_BOOK: fewer than k are listed, so every plan of the book, and none keeps the limit.
+ * *rank is 0 with the last two. */
+uint32_t kbest_limit(const int32_t *book, size_t words, size_t k, const uint8_t *marks, size_t choices, size_t m, uint32_t *answer, size_t *rank);
 
 /* Writes the record of a book and k to the front of `record`: questions 1 to 14, then 28 and 18. *length is the record's length. */
 uint32_t kbest_write(const int32_t *book, size_t words, size_t k, uint8_t *record, size_t room, size_t *length);

@@ -11,6 +11,7 @@
 static const int32_t BOOK[] = {2, 1, 7, 1, 2, 2, 1, 1, 2, 0, 1, 1, 0, 0, 0, 10, 1, 1, 12, 2, 4, 9};
 #define WORDS (sizeof BOOK / sizeof BOOK[0])
 static const uint8_t PLAN[] = {1, 0, KBEST_NOT_REACHED};
+static const uint8_t MARKS[] = {0, 1, 0, 0};
 static const int32_t TABLE[] = {2, 1, 1, 0, 3, 1, 1, 0, 0, 5, 2, 4};
 #define TABLE_WORDS (sizeof TABLE / sizeof TABLE[0])
 
@@ -21,7 +22,7 @@ static uint8_t bytes[200];
 static kbest_desk desk;
 
 /* Which figures a call has. */
-enum figures { NONE, COST, FOUND, ONE, TWO };
+enum figures { NONE, COST, FOUND, KEPT, ONE, TWO };
 static int64_t cost = BEFORE;
 static uint32_t answer = BEFORE;
 static size_t first = BEFORE, second = BEFORE;
@@ -45,8 +46,8 @@ static int untouched(void) {
 }
 
 static void same(const char *call, enum figures has, uint32_t number, uint32_t want) {
-    int figures = cost == (has == COST || has == FOUND ? 0 : BEFORE) && answer == (has == FOUND ? 0 : BEFORE) && first == (has >= ONE ? 0 : BEFORE)
-        && second == (has == TWO ? 0 : BEFORE);
+    int figures = cost == (has == COST || has == FOUND ? 0 : BEFORE) && answer == (has == FOUND || has == KEPT ? 0 : BEFORE)
+        && first == (has >= KEPT ? 0 : BEFORE) && second == (has == TWO ? 0 : BEFORE);
     calls++;
     if (number != want || !figures || !untouched()) {
         printf("null: %s gives %u for %u, figures %lld %u %zu %zu\n", call, number, want, (long long)cost, answer, first, second);
@@ -71,6 +72,10 @@ static void ask(void *empty) {
     same("find of no plan", FOUND, kbest_find(BOOK, WORDS, ASKED, empty, 0, &answer, &cost), KBEST_PLAN);
     same("find of nothing", FOUND, kbest_find(empty, 0, 0, empty, 0, &answer, &cost), KBEST_TOO_FEW_WORDS);
     same("find in no list", FOUND, kbest_find(BOOK, WORDS, 0, empty, 0, &answer, &cost), KBEST_COUNT);
+    same("limit in no book", KEPT, kbest_limit(empty, 0, ASKED, MARKS, sizeof MARKS, 0, &answer, &first), KBEST_TOO_FEW_WORDS);
+    same("limit without marks", KEPT, kbest_limit(BOOK, WORDS, ASKED, empty, 0, 0, &answer, &first), KBEST_LIMIT);
+    same("limit of nothing", KEPT, kbest_limit(empty, 0, 0, empty, 0, 0, &answer, &first), KBEST_TOO_FEW_WORDS);
+    same("limit in no list", KEPT, kbest_limit(BOOK, WORDS, 0, empty, 0, 0, &answer, &first), KBEST_COUNT);
     same("write of no book", ONE, kbest_write(empty, 0, ASKED, bytes, sizeof bytes, &first), KBEST_TOO_FEW_WORDS);
     same("write without room", ONE, kbest_write(BOOK, WORDS, ASKED, empty, 0, &first), KBEST_RECORD_ROOM);
     same("write of nothing", ONE, kbest_write(empty, 0, 0, empty, 0, &first), KBEST_TOO_FEW_WORDS);

@@ -1,4 +1,5 @@
-"""example.py FILE: lists the three best plans of a book, says where plans stand, files the record in FILE, reads the file again and prints what it lists."""
+"""example.py FILE: lists the three best plans of a book, says where plans stand and which keep a limit, files the record in FILE, reads the file again and
+prints what it lists."""
 
 import pathlib
 import sys
@@ -53,6 +54,20 @@ def find():
     print_standing(BOOK[:-1] + [8], 1, first)
 
 
+def print_kept(k, marks, m):
+    kept = kbest.limit(BOOK, k, marks, m)
+    said = 'none in the list' if kept.none_in_list else 'none in the book' if kept.none_in_book else 'rank %d' % kept.rank
+    print('at most %d marked, of %d: %s' % (m, k, said))
+
+
+def limit():
+    """The choice that the first plan takes at post 0 is marked: the second keeps off it. Then every choice is, and every day makes two."""
+    one, every = [0, 1, 0, 0], [1] * 4
+    print_kept(ASKED, one, 0)
+    print_kept(1, one, 0)
+    print_kept(ASKED, every, 1)
+
+
 def file_record(path):
     record = kbest.write(BOOK, ASKED)
     path.write_bytes(record)
@@ -82,6 +97,7 @@ def main(arguments):
     try:
         print_list()
         find()
+        limit()
         file_record(path)
         print_record(path)
     except kbest.Refused as refused:

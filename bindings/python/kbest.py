@@ -15,8 +15,8 @@ import pathlib
 import threading
 
 # of this module, as text and as the number that version() gives of the library
-VERSION_TEXT = '1.7.0'
-VERSION = 10700
+VERSION_TEXT = '1.8.0'
+VERSION = 10800
 
 BOOK_MOST = 4172
 POSTS_MOST = 64
@@ -28,6 +28,7 @@ RIDERS = 16
 NOT_REACHED = 255
 CLOSED = 200000    # the cost of a closed choice
 LISTED, COSTS_MORE, TAKES_HIGHER = 1, 2, 3    # what find says of a plan, the answer of a Standing
+KEPT, NONE_IN_LIST, NONE_IN_BOOK = 1, 2, 3    # what limit says of a list, the answer of a Kept
 
 # each call asks some of them in the order that it states, and each is put to the whole input before the next
 QUESTIONS = {
@@ -61,6 +62,7 @@ QUESTIONS = {
         'has each closing line its 0, and is every reward from -100,000 to 100,000?',
     27: 'does the lent array hold the book?',
     28: 'has the book a plan?',
+    29: 'is there one mark, 0 or 1, for each choice of the book, and is m from 0 to 9?',
 }
 
 
@@ -98,6 +100,24 @@ class Standing(collections.namedtuple('Standing', 'answer value')):
         return self.answer == TAKES_HIGHER
 
 
+class Kept(collections.namedtuple('Kept', 'answer rank')):
+    """The first listed plan none of whose days makes more than m marked choices. The answer says which of the three is true.
+
+    KEPT: there is one, with this rank, from 1. NONE_IN_LIST: as many plans as were asked for are listed, and none of them keeps the limit. NONE_IN_BOOK: fewer
+    are listed, so every plan of the book, and none keeps the limit. The rank is None with the last two.
+    """
+
+    __slots__ = ()
+
+    @property
+    def none_in_list(self):
+        return self.answer == NONE_IN_LIST
+
+    @property
+    def none_in_book(self):
+        return self.answer == NONE_IN_BOOK
+
+
 class _Desk(ctypes.Structure):
     """A desk as it lies in memory: by rider the rank held and the rank committed, 0 for none."""
 
@@ -119,6 +139,7 @@ def _library():
         ('least', number, (words, size, costs)),
         ('rank', number, (words, size, size, costs, size, data, size, figure)),
         ('find', number, (words, size, size, data, size, answer, costs)),
+        ('limit', number, (words, size, size, data, size, size, answer, figure)),
         ('write', number, (words, size, size, data, size, figure)),
         ('accept', number, (data, size, figure, figure)),
         ('show', None, (data, size, size, figure, figure)),
@@ -218,6 +239,14 @@ def find(book, k, plan):
     answer, value = ctypes.c_uint32(), ctypes.c_int64()
     no = _library().kbest_find(*_words(book), _size(k), *_bytes(plan), ctypes.byref(answer), ctypes.byref(value))
     return _answer(no, Standing(answer.value, value.value))
+
+
+def limit(book, k, marks, m):
+    """The Kept of a limit in the list of the k best plans, that of rank: questions 1 to 14, then 28 and 29. There is one mark, 1 or 0, for each choice of the
+    book in the book's order, closed ones and those at the last stage too; m is from 0 to 9."""
+    answer, rank = ctypes.c_uint32(), ctypes.c_size_t()
+    no = _library().kbest_limit(*_words(book), _size(k), *_bytes(marks), _size(m), ctypes.byref(answer), ctypes.byref(rank))
+    return _answer(no, Kept(answer.value, rank.value or None))
 
 
 def write(book, k):

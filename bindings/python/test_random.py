@@ -1,8 +1,8 @@
 """Random cases of tests/kinds.py, every call of them put to the library and to the rules of the documents by enumeration: all must agree.
 
 The cases are accepted books of many shapes, with closed choices, with depots and without a plan too, books with a fault for each question, words that are none,
-plans and records with a fault, planners' tables, and counts and rooms at their limits. Each call must have given every number that it can give, and finding
-each answer, so that no question goes untried.
+plans, marks and records with a fault, planners' tables, and counts and rooms at their limits. Each call must have given every number that it can give, and
+finding and keeping a limit each answer, so that no question goes untried.
 """
 
 import ctypes
@@ -20,7 +20,7 @@ import rewards
 from test_cases import NUMBERS, OF_TABLES
 
 SEED = 'bindings'
-MANY, FEW, MOST = 18, 2, 150    # cases of each kind, of a slow one, of tables and of finding, which have one kind for many shapes
+MANY, FEW, MOST = 18, 2, 150    # cases of each kind, of a slow one, of tables, finding and limits, which have one kind for many shapes
 SLOW = ('many', 'large', 'full', 'stops_many', 'stops_large', 'stops_full', 'closed_large')
 
 
@@ -60,6 +60,13 @@ def find_into(words, k, plan):
     book, plan, said, value = lent(ctypes.c_int32, words), lent(ctypes.c_uint8, plan), ctypes.c_uint32(99), ctypes.c_int64(99)
     no = kbest._library().kbest_find(book, len(book), k, plan, len(plan), ctypes.byref(said), ctypes.byref(value))
     return no, said.value, value.value
+
+
+def limit_into(words, k, marks, m):
+    """The call itself: (number, answer, rank)."""
+    book, marks, said, rank = lent(ctypes.c_int32, words), lent(ctypes.c_uint8, marks), ctypes.c_uint32(99), ctypes.c_size_t(99)
+    no = kbest._library().kbest_limit(book, len(book), k, marks, len(marks), m, ctypes.byref(said), ctypes.byref(rank))
+    return no, said.value, rank.value
 
 
 def write_into(words, k, room):
@@ -121,6 +128,17 @@ class Compared(machine.Machine):
         if found:
             same('the answer of find', (found.listed, found.costs_more, found.takes_higher), (said == 1, said == 2, said == 3))
 
+    def limit(self, c, part):
+        marks, m = part[8:], machine.number_at(part, 0)
+        no, said, rank = reference.limit(self.words, c.k, marks, m)
+        self.seen['limit'].add(no)
+        self.seen['answers of limit'].add(said)
+        same('limit', limit_into(self.words, c.k, marks, m), (no, said, rank))
+        got, kept = answer(kbest.limit, self.words, c.k, marks, m)
+        same('limit', (got, kept), wanted(no, said, rank or None))
+        if kept:
+            same('the answer of limit', (kept.rank is not None, kept.none_in_list, kept.none_in_book), (said == 1, said == 2, said == 3))
+
     def write(self, c, part):
         record = bytearray(part)
         no, length = reference.write(self.words, c.k, record)
@@ -168,13 +186,13 @@ def compare(case, seen):
 def drawn():
     """Cases of every kind but pages, which are no call of the library, desks, which test_desk.py compares, and books that the reference cannot enumerate."""
     for name in kinds.KINDS:
-        if name not in ('page', 'desk', 'desk, closed', 'desk, depots', 'vast', 'find, vast'):
-            for n in range(FEW if name in SLOW else MOST if name in ('convert', 'find', 'find, faults') else MANY):
+        if name not in ('page', 'desk', 'desk, closed', 'desk, depots', 'vast', 'find, vast', 'limit, vast'):
+            for n in range(FEW if name in SLOW else MOST if name in ('convert', 'find', 'find, faults', 'limit', 'limit, faults') else MANY):
                 yield kinds.make(SEED, n, name)
 
 
 def main():
-    numbers = {**NUMBERS, **OF_TABLES, 'answers of find': {0, 1, 2, 3}}    # 0 where it is refused
+    numbers = {**NUMBERS, **OF_TABLES, 'answers of find': {0, 1, 2, 3}, 'answers of limit': {0, 1, 2, 3}}    # 0 where it is refused
     seen, cases = {name: set() for name in numbers}, 0
     for case in drawn():
         compare(case, seen)

@@ -1,11 +1,12 @@
-//! example FILE: lists the three best plans of a book, says where plans stand, files the record in FILE, reads the file again and prints what it lists.
+//! example FILE: lists the three best plans of a book, says where plans stand and which keep a limit, files the record in FILE, reads the file again and prints
+//! what it lists.
 
 use std::error::Error;
 use std::path::{Path, PathBuf};
 use std::process::ExitCode;
 use std::{env, fs, io};
 
-use kbest::Standing;
+use kbest::{Kept, Standing};
 
 const BOOK: [i32; 22] = [
     2, 1, 7, // D, H, L
@@ -66,6 +67,23 @@ fn find() -> Result<(), kbest::Refused> {
     print_standing(&tied, 1, &first)
 }
 
+fn print_kept(k: usize, marks: &[u8], m: usize) -> Result<(), kbest::Refused> {
+    match kbest::limit(&BOOK, k, marks, m)? {
+        Kept::Rank(rank) => println!("at most {m} marked, of {k}: rank {rank}"),
+        Kept::NoneInList => println!("at most {m} marked, of {k}: none in the list"),
+        Kept::NoneInBook => println!("at most {m} marked, of {k}: none in the book"),
+    }
+    Ok(())
+}
+
+/// The choice that the first plan takes at post 0 is marked: the second keeps off it. Then every choice is, and every day makes two.
+fn limit() -> Result<(), kbest::Refused> {
+    let (one, all) = ([0, 1, 0, 0], [1; 4]);
+    print_kept(ASKED, &one, 0)?;
+    print_kept(1, &one, 0)?;
+    print_kept(ASKED, &all, 1)
+}
+
 fn named(path: &Path, error: io::Error) -> String {
     format!("{}: {error}", path.display())
 }
@@ -102,6 +120,7 @@ fn run(path: &Path) -> Result<(), Box<dyn Error>> {
     println!("check {}, of two words {}", check_number(&BOOK), check_number(&BOOK[..2]));
     print_list()?;
     find()?;
+    limit()?;
     file_record(path)?;
     print_record(path)
 }

@@ -10,9 +10,9 @@ use std::fmt;
 use std::num::NonZeroU32;
 
 /// The version of this wrapper as text.
-pub const VERSION_TEXT: &str = "1.7.0";
+pub const VERSION_TEXT: &str = "1.8.0";
 /// The same as a number: the first × 10,000 + the second × 100 + the third.
-pub const VERSION: u32 = 10700;
+pub const VERSION: u32 = 10800;
 
 /// The longest book in words.
 pub const BOOK_MOST: usize = 4172;
@@ -33,8 +33,8 @@ pub const NOT_REACHED: u8 = 255;
 /// The cost of a closed choice.
 pub const CLOSED: i32 = 200_000;
 
-/// The questions 1 to 28. Each call asks some of them in the order that it states, and each is put to the whole input before the next.
-pub const QUESTIONS: [&str; 28] = [
+/// The questions 1 to 29. Each call asks some of them in the order that it states, and each is put to the whole input before the next.
+pub const QUESTIONS: [&str; 29] = [
     "are there three words?",
     "is D from 1 to 100?",
     "is H from 1 to 8?",
@@ -65,6 +65,7 @@ pub const QUESTIONS: [&str; 28] = [
      has each closing line its 0, and is every reward from -100,000 to 100,000?",
     "does the lent array hold the book?",
     "has the book a plan?",
+    "is there one mark, 0 or 1, for each choice of the book, and is m from 0 to 9?",
 ];
 
 mod c {
@@ -73,6 +74,10 @@ mod c {
     /// Two of the three answers of `kbest_find`; what is left is the third.
     pub const LISTED: u32 = 1;
     pub const COSTS_MORE: u32 = 2;
+
+    /// Two of the three answers of `kbest_limit`.
+    pub const KEPT: u32 = 1;
+    pub const NONE_IN_LIST: u32 = 2;
 
     #[link(name = "kbest_c", kind = "static")]
     extern "C" {
@@ -100,6 +105,16 @@ mod c {
             answer: *mut u32,
             value: *mut i64,
         ) -> u32;
+        pub fn kbest_limit(
+            book: *const i32,
+            words: usize,
+            k: usize,
+            marks: *const u8,
+            choices: usize,
+            m: usize,
+            answer: *mut u32,
+            rank: *mut usize,
+        ) -> u32;
         pub fn kbest_write(book: *const i32, words: usize, k: usize, record: *mut u8, room: usize, length: *mut usize) -> u32;
         pub fn kbest_accept(record: *const u8, bytes: usize, posts: *mut usize, listed: *mut usize) -> u32;
         pub fn kbest_show(record: *const u8, bytes: usize, j: usize, offset: *mut usize, length: *mut usize);
@@ -119,7 +134,7 @@ mod c {
 pub struct Refused(NonZeroU32);
 
 impl Refused {
-    /// From 1 to 28.
+    /// From 1 to 29.
     pub fn number(self) -> u32 {
         self.0.get()
     }
@@ -147,6 +162,17 @@ pub enum Standing {
     CostsMore(i64),
     /// It is not listed and costs the same as the last listed plan: the first post, from 0, where the two differ, at which it takes the higher choice.
     TakesHigher(usize),
+}
+
+/// The first listed plan none of whose days makes more than m marked choices.
+#[derive(Clone, Copy, Debug, PartialEq, Eq)]
+pub enum Kept {
+    /// There is one: its rank, from 1.
+    Rank(usize),
+    /// As many plans as were asked for are listed, and none of them keeps the limit.
+    NoneInList,
+    /// Fewer are listed, so every plan of the book, and none keeps the limit.
+    NoneInBook,
 }
 
 /// What a record carries.
@@ -238,6 +264,20 @@ pub fn find(book: &[i32], k: usize, plan: &[u8]) -> Result<Standing, Refused> {
         _ => Standing::TakesHigher(value as usize),
     };
     answer(no, standing)
+}
+
+/// The first plan none of whose days makes more than m marked choices, in the list of the k best plans, that of `rank`: questions 1 to 14, then 28 and 29.
+/// There is one mark, 1 or 0, for each choice of the book in the book's order, closed ones and those at the last stage too; m is from 0 to 9.
+pub fn limit(book: &[i32], k: usize, marks: &[u8], m: usize) -> Result<Kept, Refused> {
+    let (mut said, mut rank) = (0, 0);
+    let no = unsafe { c::kbest_limit(book.as_ptr(), book.len(), k, marks.as_ptr(), marks.len(), m, &mut said, &mut rank) };
+    // what is made here of a refusal is dropped
+    let kept = match said {
+        c::KEPT => Kept::Rank(rank),
+        c::NONE_IN_LIST => Kept::NoneInList,
+        _ => Kept::NoneInBook,
+    };
+    answer(no, kept)
 }
 
 /// Writes the record of a book and k to the front of the slice and gives its length: questions 1 to 14, then 28 and 18.

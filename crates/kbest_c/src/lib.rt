@@ -3,7 +3,8 @@ ghost use mathlib.Core.Path.{_≡_};
 ghost use lib.ListN.{length, take, drop};
 ghost use Rattle.model.specs.Questions.{bookNumber};
 ghost use Rattle.model.specs.Record.{acceptNumber};
-ghost use Rattle.model.specs.Calls.{powerOf, valueNumber, valueCost, leastNumber, leastCost, roomOf, rankNumber, rankCount, rankCosts, rankPlans, writeNumber, writeLength, writeRecord, acceptStates, acceptCount, shown, findNumber, findAnswer, findValue};
+ghost use Rattle.model.specs.Calls.{powerOf, valueNumber, valueCost, leastNumber, leastCost, roomOf, rankNumber, rankCount, rankCosts, rankPlans, writeNumber, writeLength, writeRecord, acceptStates, acceptCount, shown, findNumber, findAnswer, findValue, limitNumber, limitAnswer, limitRank};
+ghost use Rattle.model.specs.Limit.{limitOf};
 ghost use Rattle.reward_table.specs.Convert.{convertNumber, convertLength, convertSlice};
 ghost use Rattle.reservation.specs.Reservations.{heldBy, committedBy, openFor, reply, asking, committing, cancelling, opening};
 ghost use Rattle.kbest_c.specs.Part.{shownOffset, shownLength};
@@ -11,7 +12,7 @@ ghost use Rattle.kbest_c.specs.Version.{version};
 use reservation::Desk;
 
 // The version in the file VERSION: its first number × 10,000 + its second × 100 + its third.
-const VERSION: u32 = 10700;
+const VERSION: u32 = 10800;
 
 // The version of the library that is linked.
 #[no_mangle]
@@ -91,6 +92,25 @@ pub extern "C" fn kbest_find(
     *answer = f.answer;
     *value = v;
     f.no
+}
+
+// The number of seeking the first listed plan none of whose days makes more than m marked choices; which of the three answers there is, and the rank, 0 where
+// there is none. Both are 0 where it is refused.
+#[no_mangle]
+pub extern "C" fn kbest_limit(
+    book: &[i32],
+    k: usize,
+    marks: &[u8],
+    m: usize,
+    answer: &mut u32,
+    rank: &mut usize,
+) -> u32
+    ensures { λ r. ⌜ (r ≡ limitNumber (now (book .entry)) k (limitOf (now (marks .entry)) m)) × (now (answer .exit) ≡ limitAnswer (now (book .entry)) k (limitOf (now (marks .entry)) m)) × (now (rank .exit) ≡ limitRank (now (book .entry)) k (limitOf (now (marks .entry)) m)) ⌝ }
+{
+    let l = limit::limit(book, k, marks, m);
+    *answer = l.answer;
+    *rank = l.rank;
+    l.no
 }
 
 // The number of writing the record of a book and k; its length. The record goes to the front of the slice.
