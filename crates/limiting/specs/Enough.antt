@@ -2,14 +2,14 @@
 -- Assumes nothing.
 use mathlib.Core.Path.{_≡_, ap, ap₂, _∙_}
 use mathlib.Core.List.{List, [], _∷_}
-use Prim.Native.Nat.{ℕ, _+_, _*_, _≤_, _<_}
+use Prim.Native.Nat.{ℕ, _+_, _≤_}
 use native.Mathlib.Omega.{arith}
-use lib.ListN.{take, drop, getD}
+use lib.ListN.{take, drop}
 use lib.Seq.{getD-take}
 use Rattle.model.specs.Bytes.{fromBytes}
 use Rattle.model.specs.Limit.{limitOf}
 use Rattle.model.specs.Page.{mostInput, inputCount, inputBook, inputNumber, markCount, inputLimit, afterMarks, marksNumber, limitLine}
-use Rattle.bytes_io.proofs.Numbers.{Bytes, bytes-take, bytes-drop}
+use Rattle.bytes_io.proofs.Numbers.{Bytes, bytes-drop}
 use Rattle.input.specs.Ahead.{front-part}
 
 -- m, two bytes that say how many marks there are, at most 65,535 marks, and the bytes that count of K and a book

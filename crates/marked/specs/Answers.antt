@@ -1,7 +1,7 @@
 -- Request 2.10 in its reader's words: what each of the three answers says, that the answer given is true, and that no other is.
 -- Assumes nothing.
-use mathlib.Core.Path.{_≡_, refl, sym, ap, _∙_, subst}
-use mathlib.Core.Bool.{Bool, true, false, cond}
+use mathlib.Core.Path.{_≡_, sym, ap, _∙_, subst}
+use mathlib.Core.Bool.{Bool, true, false}
 use mathlib.Core.Logic.{_⊎_, inl, inr, _↔_}
 use mathlib.Core.List.{List}
 use mathlib.Core.Option.{some}
@@ -21,7 +21,7 @@ use Rattle.model.specs.Order.{comesBefore, ranking}
 use Rattle.model.specs.Limit.{Limit, markedOn, keepsLimit, Kept, keptAt, noneListed, noneInBook, aboveKept, firstKept}
 use Rattle.laws.specs.Members.{In, T-true, true-T}
 use Rattle.laws.specs.Sorting.{at-in}
-use Rattle.laws.specs.Entries.{in-at, some-at, where-at, where-above, where-inside}
+use Rattle.laws.specs.Entries.{where-at, where-above, where-inside}
 use Rattle.accepted.specs.Demands.{in-list, above-all, list-length, order-total, none-missing}
 use Rattle.marked.specs.Kept.{Keeps, keeps-is, mostMarked, within, one-has}
 

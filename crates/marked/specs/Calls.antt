@@ -10,7 +10,7 @@ use lib.Dec.{T, eqb, leb}
 use lib.ListN.{length}
 use Rattle.model.specs.Lists.{every}
 use Rattle.model.specs.Model.{Words, stateCount}
-use Rattle.model.specs.Questions.{firstNo, bookNumber}
+use Rattle.model.specs.Questions.{bookNumber}
 use Rattle.model.specs.Record.{askedNumber}
 use Rattle.model.specs.Limit.{Limit, firstMark, limitAllowed, Kept, firstKept, keptNumber, keptRank}
 use Rattle.model.specs.Calls.{limitQuestions, limitNumber, limitAnswer, limitRank}

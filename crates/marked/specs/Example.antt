@@ -6,7 +6,7 @@ use mathlib.Core.List.{List, [], _∷_, map}
 use lib.IntN.{pos}
 use Rattle.model.specs.Model.{Words, word, scale, horizon, lineCount, stageSize, firstState, stateCount, stage, togo, actionCount, left, right}
 use Rattle.model.specs.Model.{branches, lineAfter, skip, stateLine, actionLine, transitionAt, readAction, action, options}
-use Rattle.model.specs.Policy.{Policy, policies}
+use Rattle.model.specs.Policy.{policies}
 use Rattle.model.specs.Path.{taken, paths, policyCost}
 use Rattle.model.specs.Order.{comesBefore, ranking}
 use Rattle.model.specs.Limit.{limitOf, firstMark, markOf, markedOn, keepsLimit, Kept, keptAt, noneListed, noneInBook, aboveKept, firstKept}

@@ -1,7 +1,8 @@
--- A policy keeps a limit exactly if no sample path of it takes more marked actions (document 01: no day of the plan), and that is so exactly if the most over
--- its paths is at most m. One pass over the states from the last to the first gives the most: at each state the mark of the action taken and the most at the next states.
+-- A policy keeps a limit exactly if no sample path of it takes more marked actions (document 01: no day of the plan), and that is so exactly if the most
+-- over its paths is at most m. One pass over the states from the last to the first gives the most: at each state it is the mark of the action taken and the
+-- most at the next states.
 -- Assumes nothing.
-use mathlib.Core.Path.{_≡_, ap, _∙_}
+use mathlib.Core.Path.{_≡_}
 use mathlib.Core.Bool.{Bool}
 use mathlib.Core.Logic.{_↔_}
 use Prim.Native.Nat.{ℕ, _+_, _≤_}

@@ -1,2 +1,3 @@
-// Request 2.10 in its reader's words: specs/Kept.antt says what it is to keep a limit, specs/Answers.antt what each of the three answers says of all plans
-// of the book, specs/Calls.antt what the call gives; specs/Example.antt has the example of source document 000.
+// Which policies keep a limit of marked actions (request 2.10): specs/Kept.antt has what that is over days, and the recursion that tells it,
+// specs/Answers.antt what each of the three answers says, that the answer given is true and that no other is, specs/Calls.antt the numbers and figures of the
+// call, specs/Example.antt three plans by computation.

@@ -2,13 +2,11 @@
 -- Assumes nothing.
 use mathlib.Core.Path.{_≡_, sym, ap, _∙_}
 use mathlib.Core.Bool.{true}
-use Prim.Native.Nat.{ℕ, suc, _+_, _*_, _≤_, _<_}
 use native.Mathlib.Numerals.{add-one}
 use native.Mathlib.Omega.{arith}
 use borrow.Author.Needs.{needs}
-use lib.ListN.{length}
 use Rattle.model.specs.Model.{stateCount}
-use Rattle.model.specs.Limit.{Limit, limitOf, limitAllowed, firstKept, keptNumber, keptRank}
+use Rattle.model.specs.Limit.{Limit, limitOf, limitAllowed, keptNumber, keptRank}
 use Rattle.model.specs.Calls.{limitNumber, limitAnswer, limitRank}
 use Rattle.questions.specs.FirstNo.{fails, passes, none}
 use Rattle.questions.specs.Answers.{stops, goes-on, leaves, gives}
@@ -16,7 +14,6 @@ use Rattle.asked.specs.Asked.{Asked, Counted, counted-says, counted-stops, list
 use Rattle.book.proofs.Words.{no, yes′}
 use Rattle.record.specs.declared.Listing.{Listing}
 use Rattle.record.specs.Listed.{Listed}
-use Rattle.marks.specs.Marks.{MarksOf}
 use Rattle.marks.specs.Allowed.{allowed-marks}
 use Rattle.limit.proofs.Says.{rank-says, none-says}
 use Rattle.limit.proofs.limit.Statement.{statement}

@@ -1,7 +1,7 @@
 -- The figures of the states from p on are made.
 -- Assumes nothing.
-use mathlib.Core.Path.{_≡_, refl, sym, ap, _∙_, subst}
-use Prim.Native.Nat.{ℕ, _+_, _-_, _*_, _≤_, _<_}
+use mathlib.Core.Path.{_≡_, sym, ap, _∙_, subst}
+use Prim.Native.Nat.{ℕ, _+_, _-_, _≤_, _<_}
 use native.Mathlib.Omega.{arith}
 use borrow.Author.Needs.{needs}
 use mathlib.Core.List.{List}
@@ -16,7 +16,7 @@ use Rattle.accepted.specs.Bytes.{byte-is}
 use Rattle.accepted.specs.Facts.{accepted}
 use Rattle.accepted.specs.Shape.{shape}
 use Rattle.path_sums.specs.Books.{mostFrom, over-from}
-use Rattle.marks.specs.Marks.{numberAt, MarksOf, Zeros, MostTo}
+use Rattle.marks.specs.Marks.{MostTo}
 use Rattle.marks.proofs.Counts.{mark-step, mark-few, mark-inside}
 use Rattle.marks.proofs.Pass.{figure, stored, kept, few}
 use Rattle.marks.proofs.most.Statement.{statement}
@@ -148,12 +148,16 @@ module _ (c : tie.After-most-next Inv-loop μ-loop) where
   has : w .wide .result < actionCount (ws (k w)) (p (k w))
   has = omega (arith, a .before .if1 .taken, k w .count .ensures)
 
+  mark : c .before .before .wide2 .result ≡ getD (marks w) (firstMark (ws (k w)) (p (k w)) + w .wide .result) 0
+  mark = c .before .before .wide2 .ensures .0 ∙ ap (λ (i : ℕ). getD (marks w) (i + w .wide .result) 0) (first w)
+
   is : c .before .before .wide2 .result + c .most-next .result ≡ mostFrom (ws (k w)) (markOf (ws (k w)) (marks w)) (bs w) (p (k w))
   is =
-      let w2 = c .before .before .wide2 in
-      ap (λ (n : ℕ). w2 .result + n) (c .most-next .ensures)
-      ∙ figure (ws (k w)) (ok (k w)) (marks w) (bs w) (p (k w)) (w .wide .result) (byte w) (l (k w) .loop .v) (later w) has (w2 .result)
-      (w2 .ensures .0 ∙ ap (λ (i : ℕ). getD (marks w) (i + w .wide .result) 0) (first w))
+      omega (
+        arith,
+        c .most-next .ensures,
+        figure (ws (k w)) (ok (k w)) (marks w) (bs w) (p (k w)) (w .wide .result) (byte w) (l (k w) .loop .v) (later w) has (c .before .before .wide2 .result) mark,
+      )
 
 add-v : tie.Need-add-v Inv-loop μ-loop
 add-v c = omega (arith, is c, few (ws (k (w c))) (ok (k (w c))) (marks (w c)) (s (k (w c)) .pre .1) (bs (w c)) (p (k (w c))))
