@@ -15,7 +15,7 @@ ghost use lib.ListN.{length, getD};
 ghost use Rattle.model.specs.Model.{stateCount, action};
 ghost use Rattle.model.specs.Questions.{bookNumber};
 ghost use Rattle.accepted.specs.Options.{Feasible, Alive};
-ghost use Rattle.index.specs.Index.{Checked};
+ghost use Rattle.index.specs.Index.{Checked, Indexed};
 ghost use Rattle.nexts.specs.Nexts.{NextsOf};
 ghost use Rattle.build.specs.Best.{BestOf};
 ghost use Rattle.build.specs.Walk.{walkBy, chosen, Usable, Walked};
@@ -198,7 +198,35 @@ fn no_best() -> [u8; 192]
     [0; 192]
 }
 
-// The first k policies of a checked book and their costs, at the front of the lent slices; gives how many there are, none where the book has no policy.
+// The first k policies of a checked book with its index, and their costs, at the front of the lent slices; gives how many there are, none where the book has no
+// policy.
+pub fn list_by(
+    b: &[i32],
+    z: Sizes,
+    x: &[usize; 192],
+    k: usize,
+    costs: &mut [i64],
+    plans: &mut [u8],
+) -> usize
+    requires { ⌜ Indexed (now b) z (now x) × (1 ≤ k) × (k ≤ 64) × Roomy k (stateCount (now b)) (now costs) (now plans) ⌝ }
+    ensures { λ r. ⌜ Ranked (now (b .entry)) k r (now (costs .entry)) (now (costs .exit)) (now (plans .entry)) (now (plans .exit)) ⌝ }
+{
+    let m = feasible::find_barred(b, z, x);
+    if sets::has64(m.dead, 0) {
+        return 0;
+    }
+    let mut nx = nexts::no_sets();
+    nexts::fill_sets(b, z, x, &m.off, &mut nx);
+    let mut q = table::zero_rows();
+    let mut v = table::zeros();
+    table::fill_table(b, z, x, &m.off, &mut q, &mut v);
+    let mut best = no_best();
+    build::best_actions(b, z, &q, &m.off, k, &mut best);
+    let least = v[0];
+    search(b, z, x, &nx, &q, &best, least, k, costs, plans)
+}
+
+// The same by the book alone.
 pub fn list(b: &[i32], k: usize, costs: &mut [i64], plans: &mut [u8]) -> usize
     requires { ⌜ (bookNumber (now b) ≡ 0) × (1 ≤ k) × (k ≤ 64) × Roomy k (stateCount (now b)) (now costs) (now plans) ⌝ }
     ensures { λ r. ⌜ Ranked (now (b .entry)) k r (now (costs .entry)) (now (costs .exit)) (now (plans .entry)) (now (plans .exit)) ⌝ }
@@ -206,17 +234,5 @@ pub fn list(b: &[i32], k: usize, costs: &mut [i64], plans: &mut [u8]) -> usize
     let z = book::read_sizes(b);
     let mut x = index::zeros();
     index::fill_index(b, z, &mut x);
-    let m = feasible::find_barred(b, z, &x);
-    if sets::has64(m.dead, 0) {
-        return 0;
-    }
-    let mut nx = nexts::no_sets();
-    nexts::fill_sets(b, z, &x, &m.off, &mut nx);
-    let mut q = table::zero_rows();
-    let mut v = table::zeros();
-    table::fill_table(b, z, &x, &m.off, &mut q, &mut v);
-    let mut best = no_best();
-    build::best_actions(b, z, &q, &m.off, k, &mut best);
-    let least = v[0];
-    search(b, z, &x, &nx, &q, &best, least, k, costs, plans)
+    list_by(b, z, &x, k, costs, plans)
 }

@@ -1,12 +1,13 @@
 // Request 2.10, "At most m hill climbs": the rank of the first listed policy none of whose sample paths takes more than m marked actions.
+use book::Sizes;
 ghost use mathlib.Core.Path.{_≡_};
 ghost use Prim.Native.Nat.{_*_, _≤_};
 ghost use lib.ListN.{length};
 ghost use Rattle.model.specs.Lists.{firstWhere};
 ghost use Rattle.model.specs.Model.{stateCount};
-ghost use Rattle.model.specs.Questions.{bookNumber};
 ghost use Rattle.model.specs.Limit.{limitOf, keepsLimit};
 ghost use Rattle.model.specs.Calls.{limitNumber, limitAnswer, limitRank};
+ghost use Rattle.index.specs.Index.{Indexed};
 ghost use Rattle.record.specs.Parts.{parts};
 ghost use Rattle.marks.specs.Marks.{MarksOf};
 ghost use Rattle.limit.specs.Says.{noneOf};
@@ -23,16 +24,22 @@ pub struct Limited {
 const FIRST_RANK: usize = 1;
 
 // How many of the n listed policies stand above the first that keeps the limit: n where none does.
-fn above_kept(b: &[i32], marks: &[u8], m: usize, plans: &[u8], n: usize) -> usize
-    requires { ⌜ (bookNumber (now b) ≡ 0) × MarksOf (now b) (now marks) × (n * stateCount (now b) ≤ length (now plans)) ⌝ }
+fn above_kept(
+    b: &[i32],
+    z: Sizes,
+    x: &[usize; 192],
+    marks: &[u8],
+    m: usize,
+    plans: &[u8],
+    n: usize,
+) -> usize
+    requires { ⌜ Indexed (now b) z (now x) × MarksOf (now b) (now marks) × (n * stateCount (now b) ≤ length (now plans)) ⌝ }
     ensures { λ r. ⌜ r ≡ firstWhere (keepsLimit (now (b .entry)) (limitOf (now (marks .entry)) m)) (parts (now (plans .entry)) (stateCount (now (b .entry))) 0 n) ⌝ }
 {
-    let z = lines::sizes(b);
-    let x = index::index(b, z);
     let s = z.s;
     let mut i: usize = 0;
     while i < n {
-        if marks::most(b, z, &x, marks, plans, i * s) <= m {
+        if marks::most(b, z, x, marks, plans, i * s) <= m {
             return i;
         }
         i = i + 1;
@@ -69,17 +76,19 @@ pub fn limit(b: &[i32], k: usize, marks: &[u8], m: usize) -> Limited
     if no != 0 {
         return refused(no);
     }
+    let z = lines::sizes(b);
+    let mut x = index::zeros();
+    index::fill_index(b, z, &mut x);
     let mut costs = listing::no_costs();
     let mut plans = listing::no_plans();
-    let n = listing::fill(b, k, &mut costs, &mut plans);
+    let n = listing::fill_by(b, z, &x, k, &mut costs, &mut plans);
     if n == 0 {
         return refused(28);
     }
-    let z = lines::sizes(b);
     if !marks::allowed(b, z, marks, m) {
         return refused(29);
     }
-    let j = above_kept(b, marks, m, &plans, n);
+    let j = above_kept(b, z, &x, marks, m, &plans, n);
     if j < n {
         return Limited {
             no: 0,

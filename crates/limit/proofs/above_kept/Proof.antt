@@ -21,13 +21,13 @@ use Rattle.limit.proofs.above_kept.Statement.{statement}
 use Rattle.limit.proofs.above_kept.Tie as tie
 
 abbrev Inv-loop : tie.InvT-loop
-Inv-loop b marks m plans n z x s i₀ i =
+Inv-loop b z x marks m plans n s i₀ i =
     (i ≤ n)
     × (firstWhere (keepsLimit b (limitOf marks m)) (parts plans (stateCount b) 0 n)
     ≡ i + firstWhere (keepsLimit b (limitOf marks m)) (parts plans (stateCount b) i (n - i)))
 
 abbrev μ-loop : tie.MeasureT-loop
-μ-loop b marks m plans n z x s i₀ i = n - i
+μ-loop b z x marks m plans n s i₀ i = n - i
 
 module _ (ws : Words) (limit : Limit) (p : Policy) (ps : List Policy) where
   found : keepsLimit ws limit p ≡ true → firstWhere (keepsLimit ws limit) (p ∷ ps) ≡ 0
@@ -36,15 +36,9 @@ module _ (ws : Words) (limit : Limit) (p : Policy) (ps : List Policy) where
   other : keepsLimit ws limit p ≡ false → firstWhere (keepsLimit ws limit) (p ∷ ps) ≡ suc (firstWhere (keepsLimit ws limit) ps)
   other e = rw e
 
-sizes-requires : tie.Need-sizes-requires Inv-loop μ-loop
-sizes-requires c κs = c .before .before .pre .0
-
-index-requires : tie.Need-index-requires Inv-loop μ-loop
-index-requires c κs = c .sizes .ensures
-
 loop-holds : tie.Need-loop-holds Inv-loop μ-loop
 loop-holds c =
-    let s = c .before .before .before .before in
+    let s = c .before .before in
     let e : s .args .n - 0 ≡ s .args .n = omega arith in
     (omega arith, rw e (sym (zero-add _)))
 
@@ -54,7 +48,7 @@ module _ (t : tie.In-loop Inv-loop μ-loop) where
   l = t .before
 
   abbrev s : tie.Start Inv-loop μ-loop
-  s = l .before .before .before .before .before
+  s = l .before .before .before
 
   abbrev ws : Words
   ws = s .args .b .now
@@ -71,28 +65,26 @@ module _ (t : tie.In-loop Inv-loop μ-loop) where
   abbrev rest : List Policy
   rest = parts (s .args .plans .now) (stateCount ws) (i + 1) (s .args .n - (i + 1))
 
-  states : l .before .before .sizes .result .s ≡ stateCount ws
-  states = l .before .before .sizes .ensures .sizes .s-is
+  states : s .args .z .s ≡ stateCount ws
+  states = s .pre .0 .checked .sizes .s-is
 
   inside : i * stateCount ws + stateCount ws ≤ length (s .args .plans .now)
   inside = part-inside i (s .args .n) (stateCount ws) (length (s .args .plans .now)) (t .loop-test .taken) (s .pre .2)
 
 mul-most : tie.Need-mul-most Inv-loop μ-loop
 mul-most c =
-    let t = c .before in
-    let e = ap (λ (n : ℕ). i t * n) (states t) in
-    omega (arith, inside t, e, l t .before .before .before, l t .before .before .before .before)
+    let e = ap (λ (n : ℕ). i c * n) (states c) in
+    omega (arith, inside c, e, l c .before, l c .before .before)
 
 most-requires : tie.Need-most-requires Inv-loop μ-loop
 most-requires c κs =
-    let t = c .before in
-    let e = ap (λ (n : ℕ). i t * n) (states t) in
-    (l t .before .index .ensures, s t .pre .1, omega (arith, inside t, e))
+    let e = ap (λ (n : ℕ). i c * n) (states c) in
+    (s c .pre .0, s c .pre .1, omega (arith, inside c, e))
 
 -- it was looked at
 module _ (c : tie.After-most Inv-loop μ-loop) where
   abbrev t : tie.In-loop Inv-loop μ-loop
-  t = c .before .before
+  t = c .before
 
   most-is : c .most .result ≡ mostOver (ws t) (markOf (ws t) (s t .args .marks .now)) (part t)
   most-is =
@@ -131,7 +123,7 @@ loop-again c =
 returns-2 : tie.Need-returns-2 Inv-loop μ-loop
 returns-2 c =
     let l = c .before in
-    let s = l .before .before .before .before .before in
+    let s = l .before .before .before in
     let ws = s .args .b .now in
     let e : s .args .n - l .loop .i ≡ 0 = omega (arith, c .loop-test .left) in
     let z : l .loop .i ≡ s .args .n = omega (arith, c .loop-test .left, l .loop .inv .0) in
@@ -148,8 +140,6 @@ above-kept-spec =
     (tie.spec
     Inv-loop
     μ-loop
-    sizes-requires
-    index-requires
     loop-holds
     mul-most
     most-requires

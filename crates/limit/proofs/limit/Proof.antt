@@ -38,36 +38,61 @@ returns c =
 counted : (c : tie.Else1) → let s = c .before .before .before in Counted (s .args .b .now) (s .args .k)
 counted c = counted-says _ _ (sym (c .before .counted-number .ensures) ∙ c .if1 .left)
 
+sizes-requires : tie.Need-sizes-requires
+sizes-requires c κs = counted c .ok
+
+zeros-requires : tie.Need-zeros-requires
+zeros-requires c κs = search needs
+
+fill-index-requires : tie.Need-fill-index-requires
+fill-index-requires c κs = search needs
+
 no-costs-requires : tie.Need-no-costs-requires
 no-costs-requires c κs = search needs
 
 no-plans-requires : tie.Need-no-plans-requires
 no-plans-requires c κs = search needs
 
-slice-aggregate-fill : tie.Need-slice-aggregate-fill
-slice-aggregate-fill c = search needs
+slice-aggregate-fill-by : tie.Need-slice-aggregate-fill-by
+slice-aggregate-fill-by c = search needs
 
-slice-aggregate-fill-2 : tie.Need-slice-aggregate-fill-2
-slice-aggregate-fill-2 c = search needs
+slice-aggregate-fill-by-2 : tie.Need-slice-aggregate-fill-by-2
+slice-aggregate-fill-by-2 c = search needs
 
-fill-requires : tie.Need-fill-requires
-fill-requires c κs =
-    let p = c .before .before in
-    (counted (p .before .before), p .before .no-costs .ensures, p .no-plans .ensures)
+-- the index is made
+abbrev indexed : tie.After-no-plans → tie.After-fill-index
+indexed p = p .before .before
+
+abbrev counts : tie.After-fill-index → tie.Else1
+counts f = f .before .before .before .before
+
+fill-by-requires : tie.Need-fill-by-requires
+fill-by-requires c κs =
+    let p = c .before .before .before in
+    let f = indexed p in
+    (counted (counts f), f .fill-index .ensures, p .before .no-costs .ensures, p .no-plans .ensures)
 
 -- the list stands in the arrays
-module _ (l : tie.After-fill) where
+module _ (l : tie.After-fill-by) where
+  abbrev made : tie.After-fill-index
+  made = indexed (l .before .before .before .before)
+
   abbrev first : tie.Else1
-  first = l .before .before .before .before .before
+  first = counts made
 
   abbrev s : tie.Start
   s = first .before .before .before
 
   abbrev list : Listing
-  list = record { n = l .fill .result; s = stateCount (s .args .b .now); costs = l .fill .last .1 .1 .0; plans = l .fill .last .1 .1 .1 .0 }
+  list = record {
+    n = l .fill-by .result;
+    s = stateCount (s .args .b .now);
+    costs = l .fill-by .last .1 .1 .1 .1 .0;
+    plans = l .fill-by .last .1 .1 .1 .1 .1 .0;
+  }
 
   is-listed : Listed (s .args .b .now) (s .args .k) list
-  is-listed = l .fill .ensures
+  is-listed = l .fill-by .ensures
 
 refused-requires-2 : tie.Need-refused-requires-2
 refused-requires-2 c κs = search needs
@@ -76,20 +101,17 @@ returns-2 : tie.Need-returns-2
 unfolding limitNumber limitAnswer limitRank
 returns-2 c =
     let l = c .before .before .before .before in
-    let e = stops (sym (list-none _ _ (counted (first l)) (l .fill .ensures .count) (c .before .if2 .taken))) _ (omega arith) in
+    let e = stops (sym (list-none _ _ (counted (first l)) (l .fill-by .ensures .count) (c .before .if2 .taken))) _ (omega arith) in
     let r = c .refused2 .ensures in
     (r .0 ∙ e, r .1 ∙ leaves e (omega arith) _ _, r .2 ∙ leaves e (omega arith) _ _)
 
 -- some policy is listed
 module _ (c : tie.Else2) where
-  abbrev l : tie.After-fill
+  abbrev l : tie.After-fill-by
   l = c .before .before .before
 
   asked : Asked (s l .args .b .now) (s l .args .k)
-  asked = list-some _ _ (counted (first l)) (l .fill .ensures .count) (c .if2 .left)
-
-sizes-requires : tie.Need-sizes-requires
-sizes-requires c κs = asked c .ok
+  asked = list-some _ _ (counted (first l)) (l .fill-by .ensures .count) (c .if2 .left)
 
 allowed-requires : tie.Need-allowed-requires
 allowed-requires c κs = search needs
@@ -101,7 +123,7 @@ returns-3 : tie.Need-returns-3
 unfolding limitNumber limitAnswer limitRank
 returns-3 c =
     let p = c .before .before in
-    let d = p .before .before in
+    let d = p .before in
     let a = s (l d) .args in
     let e : 29 ≡ limitNumber (a .b .now) (a .k) (limitOf (a .marks .now) (a .m))
     = goes-on (asked-passed _ _ (asked d)) (sym (fails _ _ _ (no (p .allowed .ensures) (c .before .if3 .taken)))) in
@@ -114,7 +136,7 @@ module _ (c : tie.Else3) where
   p = c .before
 
   abbrev d : tie.Else2
-  d = p .before .before
+  d = p .before
 
   abbrev a : tie.Start
   a = s (l d)
@@ -134,17 +156,17 @@ slice-aggregate-above-kept c = search needs
 
 above-kept-requires : tie.Need-above-kept-requires
 above-kept-requires c κs =
-    let e = c .before in
-    (asked (d e) .ok, allowed-marks _ _ _ (is e), is-listed (l (d e)) .held .plans-long)
+    let e = c .before .before in
+    (made (l (d e)) .fill-index .ensures, allowed-marks _ _ _ (is e), is-listed (l (d e)) .held .plans-long)
 
-add-t21 : tie.Need-add-t21
-add-t21 c = let e = c .before .before .before in omega (arith, c .if4 .taken, is-listed (l (d e)) .held .few)
+add-t27 : tie.Need-add-t27
+add-t27 c = let e = c .before .before .before .before in omega (arith, c .if4 .taken, is-listed (l (d e)) .held .few)
 
 returns-4 : tie.Need-returns-4
 unfolding limitAnswer limitRank
 returns-4 c =
     let j = c .before in
-    let e = j .before .before in
+    let e = j .before .before .before in
     let says = rank-says _ (asked (d e) .ok) _ (list (l (d e))) (is-listed (l (d e))) (limit e) (j .above-kept .result) (j .above-kept .ensures) (c .if4 .taken) in
     (number e, gives (sym (number e)) _ (sym (ap keptNumber says)), gives (sym (number e)) _ (add-one _ ∙ sym (ap keptRank says)))
 
@@ -155,7 +177,7 @@ returns-5 : tie.Need-returns-5
 unfolding limitAnswer limitRank
 returns-5 c =
     let f = c .before in
-    let e = f .before .before .before in
+    let e = f .before .before .before .before in
     let says = none-says _ (asked (d e) .ok) _ (list (l (d e))) (is-listed (l (d e))) (limit e) (omega (arith, f .before .above-kept .ensures, f .if4 .left)) in
     let n = number e in
     (n, gives (sym n) _ (c .none-kept .ensures ∙ says .0), gives (sym n) _ (says .1))
@@ -167,20 +189,22 @@ limit-spec =
     counted-number-requires
     refused-requires
     returns
+    sizes-requires
+    zeros-requires
+    fill-index-requires
     no-costs-requires
     no-plans-requires
-    slice-aggregate-fill
-    slice-aggregate-fill-2
-    fill-requires
+    slice-aggregate-fill-by
+    slice-aggregate-fill-by-2
+    fill-by-requires
     refused-requires-2
     returns-2
-    sizes-requires
     allowed-requires
     refused-requires-3
     returns-3
     slice-aggregate-above-kept
     above-kept-requires
-    add-t21
+    add-t27
     returns-4
     none-kept-requires
     returns-5)
