@@ -104,7 +104,8 @@ def kept(words, k, marks, m):
     _, answer, rank = ref.limit(words, k, marks, m)
     over = 'a marked choice' if m == 0 else 'more than 1 marked choice' if m == 1 else 'more than %d marked choices' % m
     return ('', 'Rank %d is the first plan on the list none of whose days makes %s.\n' % (rank, over),
-            'None in the list: each of the %d plans listed has a day that makes %s. A plan that is not listed may have none.\n' % (k, over),
+            'None in the list: %s has a day that makes %s. A plan that is not listed may have none.\n' % (
+                'the plan listed' if k == 1 else 'each of the %d plans listed' % k, over),
             'None in the book: each of its plans has a day that makes %s.\n' % over)[answer].encode()
 
 
@@ -356,7 +357,7 @@ class Limit(Folder):
     def test_answers(self):
         one, two = b'more than 1 marked choice', b'more than 2 marked choices'
         for k, most, said in ((3, 2, b'Rank 1 is the first plan on the list none of whose days makes %s.\n' % two),
-                              (1, 1, b'None in the list: each of the 1 plans listed has a day that makes %s. A plan that is not listed may have none.\n' % one),
+                              (1, 1, b'None in the list: the plan listed has a day that makes %s. A plan that is not listed may have none.\n' % one),
                               (3, 0, b'None in the book: each of its plans has a day that makes a marked choice.\n')):
             self.expect(run('limit', '-', str(k), str(most), data=self.MARKED), 0, said)
             self.assertEqual(kept(tours.book_a(), k, self.MARKS, most), said)
@@ -368,7 +369,7 @@ class Limit(Folder):
     def test_random_books(self):
         rng, met = random.Random('limit'), set()
         for words, k in [*accepted_books(8, books.SHAPES), *accepted_books(5, books.WITH_CLOSED), *accepted_books(5, books.WITH_DEPOTS)]:
-            marks = kinds.some_marks(rng, words)
+            marks = kinds.first_plan_marked(rng, words)
             for most in (0, 1, rng.randrange(10)):
                 met.add(ref.limit(words, k, marks, most)[1])
                 self.expect(run('limit', '-', str(k), str(most), data=marked_text(words, marks)), 0, kept(words, k, marks, most))
