@@ -1,6 +1,6 @@
 -- The length, the values, m.
 -- Assumes nothing.
-use mathlib.Core.Path.{_≡_, _∙_}
+use mathlib.Core.Path.{_≡_}
 use mathlib.Core.Bool.{true, false}
 use mathlib.Core.List.{List}
 use Prim.Native.Nat.{ℕ}
@@ -44,13 +44,13 @@ returns-2 : tie.Need-returns-2
 returns-2 c =
     let a = c .before in
     let e = a .before in
-    other-value _ _ _ (e .if1 .left ∙ e .before .action-total .ensures) (no (a .all-marks .ensures) (c .if2 .taken))
+    other-value _ _ _ (omega (arith, e .if1 .left, e .before .action-total .ensures)) (no (a .all-marks .ensures) (c .if2 .taken))
 
 returns-3 : tie.Need-returns-3
 returns-3 c =
     let a = c .before in
     let e = a .before in
-    by-most _ _ _ (e .if1 .left ∙ e .before .action-total .ensures) (yes′ (a .all-marks .ensures) (c .if2 .left))
+    by-most _ _ _ (omega (arith, e .if1 .left, e .before .action-total .ensures)) (yes′ (a .all-marks .ensures) (c .if2 .left))
 
 pub allowed-spec : {M : Type 1} → statement M
 allowed-spec =
