@@ -8,7 +8,6 @@ use Rattle.model.specs.Questions.{bookNumber}
 use Rattle.model.specs.Policy.{hasPolicy}
 use Rattle.accepted.specs.Shape.{shape, has-alive, has-is}
 use Rattle.index.specs.Index.{Indexed}
-use Rattle.index.proofs.Lines.{headed}
 use Rattle.feasible.specs.Barred.{BarredOf, all-barred}
 use Rattle.build.proofs.Best.{table-rows}
 use Rattle.engine.proofs.Ranking.{cost-first, ranked, none-ranked}

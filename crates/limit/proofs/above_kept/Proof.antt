@@ -98,7 +98,8 @@ module _ (c : tie.After-most Inv-loop μ-loop) where
       ≡ i t + firstWhere (keepsLimit (ws t) (limit t)) (part t ∷ rest t)
   left =
       l t .loop .inv .1
-      ∙ ap (λ (ps : List Policy). i t + firstWhere (keepsLimit (ws t) (limit t)) ps) (parts-left (s t .args .plans .now) (stateCount (ws t)) (i t) (s t .args .n) (t .loop-test .taken))
+      ∙ ap (λ (ps : List Policy). i t + firstWhere (keepsLimit (ws t) (limit t)) ps)
+      (parts-left (s t .args .plans .now) (stateCount (ws t)) (i t) (s t .args .n) (t .loop-test .taken))
 
 returns : tie.Need-returns Inv-loop μ-loop
 returns c =

@@ -34,7 +34,15 @@ module _ (c : tie.After-count Inv-loop μ-loop) where
   more = omega (arith, l .loop .inv .3, c .count .ensures, mark-step (l .before .args .b .now) (l .loop .p))
 
   few : l .loop .n + c .count .result ≤ 512
-  few = omega (arith, more, l .loop .inv .0, l .loop .inv .1, c .before .loop-test .taken, mark-few (l .before .args .b .now) (l .before .pre .ok) (l .loop .p + 1) (omega arith))
+  few =
+      omega (
+        arith,
+        more,
+        l .loop .inv .0,
+        l .loop .inv .1,
+        c .before .loop-test .taken,
+        mark-few (l .before .args .b .now) (l .before .pre .ok) (l .loop .p + 1) (omega arith),
+      )
 
 add-n : tie.Need-add-n Inv-loop μ-loop
 add-n c = omega (arith, few c)
