@@ -46,8 +46,8 @@ limitAllowed ws limit =
 -- the answer:
 pub data Kept : Type 0 where
   keptAt : ℕ → Kept  -- "the rank of the first listed plan none of whose days makes more than m marked choices"
-  noneListed : Kept  -- ""none in the list" if k = K"
-  noneInBook : Kept  -- ""none in the book" if k is less"
+  noneListed : Kept  -- "none in the list", "if k = K"
+  noneInBook : Kept  -- "none in the book", "if k is less"
 
 -- how many listed policies stand above the first that keeps the limit
 unfoldable pub aboveKept : Words → ℕ → Limit → ℕ
