@@ -95,11 +95,11 @@ class Answers(unittest.TestCase):
         self.assertGreater(min(counts[n] for n in range(5)), 10, counts)
 
     def test_days_are_those_of_costs(self):
-        """The walks of a plan are its days: the weight and the cost of each, by the choices made on it."""
+        """The days of a plan by its walks: the plan costs what the recursion over posts gives, the weights add to D^H, and each day has one post per stage."""
         for rng, words in some_books('walks', 100):
             book, plan = ref.Book(words), rng.choice(ref.in_order(tuple(words)))[1]
-            rows = [(weight, sum(book.choices[post][plan[post]][0] for post in posts)) for weight, posts in ref.walks(book, plan)]
-            self.assertEqual(rows, [*ref.days(book, plan)])
+            rows = [*ref.days(book, plan)]
+            self.assertEqual(sum(weight * cost for weight, cost in rows), search.plan_cost(book, plan))
             self.assertEqual(sum(weight for weight, _ in rows), book.scale ** book.stages)
             for _, posts in ref.walks(book, plan):
                 self.assertEqual([book.stage[post] for post in posts], [*range(len(posts))])

@@ -1,62 +1,21 @@
 -- What the call of request 2.10 gives: its numbers, and that its figures say the one answer that is true.
 -- Assumes nothing.
 use mathlib.Core.Path.{_≡_, refl, sym, _∙_}
-use mathlib.Core.Bool.{Bool, _&&_}
 use mathlib.Core.Logic.{_↔_}
 use Prim.Native.Nat.{ℕ, _≤_}
 use native.Mathlib.Omega.{arith}
-use borrow.Author.Tests.{eqb-true, eq-eqb, leb-true, le-leb}
-use lib.Dec.{T, eqb, leb}
-use lib.ListN.{length}
-use Rattle.model.specs.Lists.{every}
-use Rattle.model.specs.Model.{Words, stateCount}
+use Rattle.model.specs.Model.{Words}
 use Rattle.model.specs.Questions.{bookNumber}
 use Rattle.model.specs.Record.{askedNumber}
-use Rattle.model.specs.Limit.{Limit, firstMark, limitAllowed, Kept, firstKept, keptNumber, keptRank}
+use Rattle.model.specs.Limit.{Limit, limitAllowed, Kept, firstKept, keptNumber, keptRank}
 use Rattle.model.specs.Calls.{limitQuestions, limitNumber, limitAnswer, limitRank}
-use Rattle.laws.specs.Members.{In, T-true, true-T, and-T, T-and, same-test, every-in, in-every}
-use Rattle.laws.specs.Kept.{every-is}
+use Rattle.laws.specs.Members.{T-true, true-T, same-test}
 use Rattle.questions.specs.FirstNo.{passed, passes, fails, none, then-yes, then-zero}
 use Rattle.questions.specs.Answers.{gives}
 use Rattle.accepted.specs.Demands.{NoPolicy}
 use Rattle.asked.specs.Asked.{Asked, asked-says, asked-passed, before-28}
+use Rattle.marks.specs.Allowed.{Allowed, allowed-is}
 use Rattle.marked.specs.Answers.{Fits, answer-true}
-
--- "one byte per choice, 1 or 0, in book order", "m from 0 to 9"
-pub record Allowed (ws : Words) (limit : Limit) : Type 0 where
-  pub one-each : length (limit .marks) ≡ firstMark ws (stateCount ws)
-  pub values : (b : ℕ) → In b (limit .marks) → b ≤ 1
-  pub most-high : limit .most ≤ 9
-
-pub allowed-is : (ws : Words) (limit : Limit) → T (limitAllowed ws limit) ↔ Allowed ws limit
-unfolding limitAllowed
-allowed-is ws limit = (to, from)
-  where
-    length-due : Bool
-    length-due = eqb (length (limit .marks)) (firstMark ws (stateCount ws))
-
-    mark : ℕ → Bool
-    mark b = leb b 1
-
-    most-due : Bool
-    most-due = leb (limit .most) 9
-
-    to : T (length-due && every mark (limit .marks) && most-due) → Allowed ws limit
-    to t =
-        let a = and-T (length-due && every mark (limit .marks)) most-due t in
-        let b = and-T length-due (every mark (limit .marks)) (a .0) in
-        record {
-          one-each = eqb-true _ _ (T-true length-due (b .0));
-          values = λ x i. leb-true x 1 (T-true (mark x) (every-in (λ x. T (mark x)) (limit .marks) (every-is mark (limit .marks) .0 (b .1)) x i));
-          most-high = leb-true _ _ (T-true most-due (a .1));
-        }
-
-    from : Allowed ws limit → T (length-due && every mark (limit .marks) && most-due)
-    from h =
-        T-and (length-due && every mark (limit .marks)) most-due
-        (T-and length-due (every mark (limit .marks)) (true-T (eq-eqb _ _ (h .one-each)))
-        (every-is mark (limit .marks) .1 (in-every (λ x. T (mark x)) (limit .marks) (λ x i. true-T (le-leb x 1 (h .values x i))))))
-        (true-T (le-leb _ _ (h .most-high)))
 
 module _ (ws : Words) (k : ℕ) (limit : Limit) where
   -- a book, K, marks and m that pass every question

@@ -1,10 +1,10 @@
 -- The pass over a policy's states: one state more.
 -- Assumes nothing.
-use mathlib.Core.Path.{_≡_, sym, ap, ap₂, _∙_}
+use mathlib.Core.Path.{_≡_, refl, sym, ap, ap₂, _∙_}
 use mathlib.Core.Bool.{Bool, true, false, cond}
 use mathlib.Core.Logic.{_⊎_, inl, inr}
-use mathlib.Core.List.{List}
-use Prim.Native.Nat.{ℕ, _+_, _≤_, _<_}
+use mathlib.Core.List.{List, [], _∷_}
+use Prim.Native.Nat.{ℕ, zero, suc, _+_, _≤_, _<_}
 use native.Mathlib.Nat.{eq-or-lt-of-le}
 use native.Mathlib.Omega.{arith}
 use borrow.Author.Tests.{lt-ltb, le-ltb}
@@ -16,7 +16,7 @@ use Rattle.model.specs.Questions.{bookNumber}
 use Rattle.model.specs.Policy.{Policy}
 use Rattle.model.specs.Path.{byteAt, ofTaken, taken}
 use Rattle.model.specs.Limit.{firstMark, markOf}
-use Rattle.laws.specs.Members.{every-both, AtNexts}
+use Rattle.laws.specs.Members.{In, every-both, AtNexts}
 use Rattle.questions.specs.Ranges.{and-right}
 use Rattle.accepted.specs.Facts.{accepted}
 use Rattle.accepted.specs.Shape.{shape}
@@ -81,6 +81,12 @@ module _ (ws : Words) (ok : bookNumber ws ≡ 0) (marks : List ℕ) (bs : Policy
         done q b (inl k) = rw (← k) (h .left p (omega arith) ∙ sym (none l))
         done q b (inr k) = h .done q (omega arith) b
 
+-- a mark, or 0 where there is none
+small-at : (bs : List ℕ) → ((b : ℕ) → In b bs → b ≤ 1) → (i : ℕ) → getD bs i 0 ≤ 1
+small-at [] h i = omega arith
+small-at (b ∷ bs) h zero = h b (inl refl)
+small-at (b ∷ bs) h (suc i) = small-at bs (λ c j. h c (inr j)) i
+
 -- at most one for each stage
 module _ (ws : Words) (ok : bookNumber ws ≡ 0) (marks : List ℕ) (m : MarksOf ws marks) (bs : Policy) where
   small : (p : ℕ) → markOf ws marks p (byteAt bs p) ≤ 1
@@ -88,7 +94,7 @@ module _ (ws : Words) (ok : bookNumber ws ≡ 0) (marks : List ℕ) (m : MarksOf
   small p = go (ltb (byteAt bs p) (actionCount ws p))
     where
       go : (b : Bool) → cond b (getD marks (firstMark ws p + byteAt bs p) 0) 0 ≤ 1
-      go true = m .small (firstMark ws p + byteAt bs p)
+      go true = small-at marks (m .values) (firstMark ws p + byteAt bs p)
       go false = omega arith
 
   pub few : (p : ℕ) → mostFrom ws (markOf ws marks) bs p ≤ 9

@@ -1,27 +1,51 @@
--- What question 29 says of marks.
+-- What question 29 asks.
 -- Assumes nothing.
-use mathlib.Core.Path.{_≡_}
-use mathlib.Core.Bool.{true}
-use mathlib.Core.List.{List, [], _∷_}
-use Prim.Native.Nat.{ℕ, zero, suc, _≤_}
-use native.Mathlib.Omega.{arith}
-use borrow.Author.Tests.{eqb-true, leb-true}
-use lib.Dec.{leb}
-use lib.ListN.{getD}
+use mathlib.Core.Bool.{Bool, _&&_}
+use mathlib.Core.Logic.{_↔_}
+use Prim.Native.Nat.{_≤_}
+use borrow.Author.Tests.{eqb-true, eq-eqb, leb-true, le-leb}
+use lib.Dec.{T, eqb, leb}
+use lib.ListN.{length}
 use Rattle.model.specs.Lists.{every}
-use Rattle.model.specs.Model.{Words}
-use Rattle.model.specs.Limit.{limitOf, limitAllowed}
-use Rattle.questions.specs.Ranges.{and-true}
+use Rattle.model.specs.Model.{Words, stateCount}
+use Rattle.model.specs.Limit.{Limit, firstMark, isMark, highestLimit, limitAllowed}
+use Rattle.laws.specs.Members.{T-true, true-T, and-T, T-and, every-in, in-every}
+use Rattle.laws.specs.Kept.{every-is}
 use Rattle.marks.specs.Marks.{MarksOf}
 
-small-at : (bs : List ℕ) → every (λ (b : ℕ). leb b 1) bs ≡ true → (i : ℕ) → getD bs i 0 ≤ 1
-small-at [] e i = omega arith
-small-at (b ∷ bs) e zero = leb-true b 1 (and-true (leb b 1) _ e .0)
-small-at (b ∷ bs) e (suc i) = small-at bs (and-true (leb b 1) _ e .1) i
+-- the marks are those of the model, and m is from 0 to 9
+pub record Allowed (ws : Words) (limit : Limit) : Type 0 where
+  pub marks-are : MarksOf ws (limit .marks)
+  pub most-high : limit .most ≤ 9
 
-pub allowed-marks : (ws : Words) (marks : List ℕ) (m : ℕ) → limitAllowed ws (limitOf marks m) ≡ true → MarksOf ws marks
+pub allowed-is : (ws : Words) (limit : Limit) → T (limitAllowed ws limit) ↔ Allowed ws limit
 unfolding limitAllowed
-allowed-marks ws marks m e =
-    let a = and-true _ _ e in
-    let b = and-true _ _ (a .0) in
-    record { long = eqb-true _ _ (b .0); small = small-at marks (b .1) }
+allowed-is ws limit = (to, from)
+  where
+    length-due : Bool
+    length-due = eqb (length (limit .marks)) (firstMark ws (stateCount ws))
+
+    values-due : Bool
+    values-due = every isMark (limit .marks)
+
+    most-due : Bool
+    most-due = leb (limit .most) highestLimit
+
+    to : T (length-due && values-due && most-due) → Allowed ws limit
+    to t =
+        let a = and-T (length-due && values-due) most-due t in
+        let b = and-T length-due values-due (a .0) in
+        record {
+          marks-are = record {
+            one-each = eqb-true _ _ (T-true length-due (b .0));
+            values = λ x i. leb-true x 1 (T-true (isMark x) (every-in (λ x. T (isMark x)) (limit .marks) (every-is isMark (limit .marks) .0 (b .1)) x i));
+          };
+          most-high = leb-true _ _ (T-true most-due (a .1));
+        }
+
+    from : Allowed ws limit → T (length-due && values-due && most-due)
+    from h =
+        T-and (length-due && values-due) most-due
+        (T-and length-due values-due (true-T (eq-eqb _ _ (h .marks-are .one-each)))
+        (every-is isMark (limit .marks) .1 (in-every (λ x. T (isMark x)) (limit .marks) (λ x i. true-T (le-leb x 1 (h .marks-are .values x i))))))
+        (true-T (le-leb _ _ (h .most-high)))

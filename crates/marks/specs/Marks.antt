@@ -7,16 +7,17 @@ use lib.ListN.{length, getD}
 use Rattle.model.specs.Model.{Words, stateCount}
 use Rattle.model.specs.Policy.{Policy}
 use Rattle.model.specs.Limit.{firstMark, markOf}
+use Rattle.laws.specs.Members.{In}
 use Rattle.path_sums.specs.Books.{mostFrom}
 
 -- the number of state q, of those that an array holds
 abbrev pub numberAt : List ℕ → ℕ → ℕ
 numberAt v q = getD v q 0
 
--- one mark for each action of the model, each 1 or 0
+-- "one byte per choice, 1 or 0": one mark for each action of the model
 pub record MarksOf (ws : Words) (marks : List ℕ) : Type 0 where
-  pub long : length marks ≡ firstMark ws (stateCount ws)
-  pub small : (i : ℕ) → getD marks i 0 ≤ 1
+  pub one-each : length marks ≡ firstMark ws (stateCount ws)
+  pub values : (b : ℕ) → In b marks → b ≤ 1
 
 -- an array of 64 zeros
 pub record Zeros (v : List ℕ) : Type 0 where

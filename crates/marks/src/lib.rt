@@ -4,11 +4,10 @@ use book::Sizes;
 use lines::Lines;
 ghost use mathlib.Core.Path.{_≡_};
 ghost use Prim.Native.Nat.{_+_, _≤_};
-ghost use lib.Dec.{leb};
 ghost use lib.ListN.{length, take, drop};
 ghost use Rattle.model.specs.Lists.{every};
 ghost use Rattle.model.specs.Model.{stateCount, action};
-ghost use Rattle.model.specs.Limit.{limitOf, firstMark, markOf, limitAllowed};
+ghost use Rattle.model.specs.Limit.{limitOf, firstMark, markOf, isMark, limitAllowed};
 ghost use Rattle.path_sums.specs.Most.{mostNext};
 ghost use Rattle.path_sums.specs.Books.{mostOver};
 ghost use Rattle.index.specs.Index.{Checked, Indexed};
@@ -16,10 +15,10 @@ ghost use Rattle.lines.specs.Lines.{LinesOf};
 ghost use Rattle.marks.specs.Marks.{numberAt, MarksOf, Zeros};
 
 // A mark is 1 or 0.
-const MOST_MARK: u8 = 1;
+const HIGHEST_MARK: u8 = 1;
 
 // "m from 0 to 9"
-const MOST_MARKED: usize = 9;
+const HIGHEST_LIMIT: usize = 9;
 
 // How many actions the states of a checked book have.
 fn action_total(b: &[i32], z: Sizes) -> usize
@@ -38,12 +37,12 @@ fn action_total(b: &[i32], z: Sizes) -> usize
 
 // Is each byte a mark?
 fn all_marks(marks: &[u8]) -> bool
-    ensures { λ r. ⌜ r ≡ every (λ x. leb x 1) (now (marks .entry)) ⌝ }
+    ensures { λ r. ⌜ r ≡ every isMark (now (marks .entry)) ⌝ }
 {
     let n = marks.len();
     let mut i: usize = 0;
     while i < n {
-        if MOST_MARK < marks[i] {
+        if HIGHEST_MARK < marks[i] {
             return false;
         }
         i = i + 1;
@@ -63,7 +62,7 @@ pub fn allowed(b: &[i32], z: Sizes, marks: &[u8], m: usize) -> bool
     if !all_marks(marks) {
         return false;
     }
-    m <= MOST_MARKED
+    m <= HIGHEST_LIMIT
 }
 
 // The most of v at the next states of action c of state p; 0 where it has none.

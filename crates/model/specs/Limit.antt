@@ -35,13 +35,18 @@ markedOn ws marks bs path = pathSum (ofTaken (markOf ws marks) bs) path
 unfoldable pub keepsLimit : Words → Limit → Policy → Bool
 keepsLimit ws limit bs = every (λ (path : Path). leb (markedOn ws (limit .marks) bs path) (limit .most)) (paths ws bs)
 
--- "marks of the wrong length or value, or m out of range": "m from 0 to 9"
-abbrev pub mostMarked : ℕ
-mostMarked = 9
+-- a mark is "1 or 0"
+abbrev pub isMark : ℕ → Bool
+isMark b = leb b 1
 
+-- "m from 0 to 9"
+abbrev pub highestLimit : ℕ
+highestLimit = 9
+
+-- 29: "marks of the wrong length or value, or m out of range"
 unfoldable pub limitAllowed : Words → Limit → Bool
 limitAllowed ws limit =
-    eqb (length (limit .marks)) (firstMark ws (stateCount ws)) && every (λ (b : ℕ). leb b 1) (limit .marks) && leb (limit .most) mostMarked
+    eqb (length (limit .marks)) (firstMark ws (stateCount ws)) && every isMark (limit .marks) && leb (limit .most) highestLimit
 
 -- the answer:
 pub data Kept : Type 0 where

@@ -8,13 +8,14 @@ use borrow.Author.Needs.{needs}
 use Rattle.model.specs.Model.{stateCount}
 use Rattle.model.specs.Limit.{Limit, limitOf, limitAllowed, keptNumber, keptRank}
 use Rattle.model.specs.Calls.{limitNumber, limitAnswer, limitRank}
+use Rattle.laws.specs.Members.{true-T}
 use Rattle.questions.specs.FirstNo.{fails, passes, none}
 use Rattle.questions.specs.Answers.{stops, goes-on, leaves, gives}
 use Rattle.asked.specs.Asked.{Asked, Counted, counted-says, counted-stops, list-none, list-some, asked-passed}
 use Rattle.book.proofs.Words.{no, yes′}
 use Rattle.record.specs.declared.Listing.{Listing}
 use Rattle.record.specs.Listed.{Listed}
-use Rattle.marks.specs.Allowed.{allowed-marks}
+use Rattle.marks.specs.Allowed.{allowed-is}
 use Rattle.limit.proofs.Says.{rank-says, none-says}
 use Rattle.limit.proofs.limit.Statement.{statement}
 use Rattle.limit.proofs.limit.Tie as tie
@@ -157,7 +158,7 @@ slice-aggregate-above-kept c = search needs
 above-kept-requires : tie.Need-above-kept-requires
 above-kept-requires c κs =
     let e = c .before .before in
-    (made (l (d e)) .fill-index .ensures, allowed-marks _ _ _ (is e), is-listed (l (d e)) .held .plans-long)
+    (made (l (d e)) .fill-index .ensures, allowed-is _ (limit e) .0 (true-T (is e)) .marks-are, is-listed (l (d e)) .held .plans-long)
 
 add-t27 : tie.Need-add-t27
 add-t27 c = let e = c .before .before .before .before in omega (arith, c .if4 .taken, is-listed (l (d e)) .held .few)

@@ -12,11 +12,12 @@ use lib.Dec.{leb}
 use lib.ListN.{length, drop, getD, drop-of-length-le}
 use lib.Seq.{drop-cons}
 use Rattle.model.specs.Lists.{every}
+use Rattle.model.specs.Limit.{isMark}
 use Rattle.marks.proofs.all_marks.Statement.{statement}
 use Rattle.marks.proofs.all_marks.Tie as tie
 
 abbrev marksAll : List ℕ → Bool
-marksAll bs = every (λ (x : ℕ). leb x 1) bs
+marksAll bs = every isMark bs
 
 abbrev Inv-loop : tie.InvT-loop
 Inv-loop marks n i₀ i = (i ≤ n) × (marksAll marks ≡ marksAll (drop i marks))

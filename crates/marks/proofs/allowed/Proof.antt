@@ -11,7 +11,7 @@ use lib.Dec.{leb}
 use lib.ListN.{length}
 use Rattle.model.specs.Lists.{every}
 use Rattle.model.specs.Model.{Words, stateCount}
-use Rattle.model.specs.Limit.{limitOf, firstMark, limitAllowed}
+use Rattle.model.specs.Limit.{limitOf, firstMark, isMark, limitAllowed}
 use Rattle.book.proofs.Words.{no, yes′}
 use Rattle.marks.proofs.allowed.Statement.{statement}
 use Rattle.marks.proofs.allowed.Tie as tie
@@ -22,11 +22,11 @@ module _ (ws : Words) (marks : List ℕ) (m : ℕ) where
   other-length h = rw (ne-eqb _ _ h)
 
   module _ (e : length marks ≡ firstMark ws (stateCount ws)) where
-    other-value : every (λ (x : ℕ). leb x 1) marks ≡ false → false ≡ limitAllowed ws (limitOf marks m)
+    other-value : every isMark marks ≡ false → false ≡ limitAllowed ws (limitOf marks m)
     unfolding limitAllowed
     other-value f = rw (eq-eqb _ _ e, f)
 
-    by-most : every (λ (x : ℕ). leb x 1) marks ≡ true → leb m 9 ≡ limitAllowed ws (limitOf marks m)
+    by-most : every isMark marks ≡ true → leb m 9 ≡ limitAllowed ws (limitOf marks m)
     unfolding limitAllowed
     by-most t = rw (eq-eqb _ _ e, t)
 

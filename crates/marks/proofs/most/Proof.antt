@@ -39,7 +39,7 @@ loop-holds c =
     let e : s .args .z .s ≡ stateCount ws = s .pre .0 .checked .sizes .s-is in (
       accepted ws (s .pre .0 .checked .ok) .sizes .s-high,
       omega (arith, e),
-      s .pre .1 .long ∙ ap (firstMark ws) (sym e),
+      s .pre .1 .one-each ∙ ap (firstMark ws) (sym e),
       record { long = c .zeros .ensures .long; done = λ q a b. absurd (omega (arith, e)); left = λ q a. c .zeros .ensures .zero-at q },
     )
 
@@ -118,7 +118,7 @@ module _ (w : tie.After-wide Inv-loop μ-loop) where
 
   -- the mark of an action lies among the marks
   inside : w .wide .result < k .count .result → l k .loop .first - k .count .result + w .wide .result < length marks
-  inside h = omega (arith, first, h, s k .pre .1 .long, k .count .ensures, mark-inside (ws k) (p k) (state k))
+  inside h = omega (arith, first, h, s k .pre .1 .one-each, k .count .ensures, mark-inside (ws k) (p k) (state k))
 
   fits : l k .loop .first - k .count .result + w .wide .result ≤ 767
   fits = omega (arith, first, w .wide .ensures .1, mark-few (ws k) (ok k) (p k) (omega (arith, state k)), state k, l k .loop .inv .0)
