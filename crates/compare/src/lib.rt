@@ -1,4 +1,6 @@
 // Two runs of bytes compared from the front.
+#![tactic(auto)]
+
 ghost use Rattle.std.specs.Prelude.{◌≡◌, ◌+◌, ◌≤◌, length, take, drop};
 ghost use Rattle.model.specs.Order.{first_difference};
 

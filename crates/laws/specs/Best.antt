@@ -3,7 +3,7 @@
 -- has it exactly when it takes a best action at each state that it reaches.
 -- Assumes nothing.
 use Rattle.std.specs.Prelude.{◌≡◌, refl, Bool, true, false, ◌⊎◌, List, [], ◌∷◌, ℕ, zero, suc, ◌^◌, ◌≤◌, ◌<◌, ℤ, pos, ◌*ℤ◌, ◌≤ℤ◌, ◌<ℤ◌}
-use Rattle.std.proofs.Common.{inl, inr, arith}
+use Rattle.std.proofs.Common.{inl, inr, arith, subst, sym}
 use Rattle.std.specs.Int.Signed.{le_z, le_z_yes, ≤ℤ_refl, clash_ℤ}
 use Rattle.model.specs.Model.{Transition, Action}
 use Rattle.model.specs.Recursion.{expected, action_cost, cost_to_go, pick, first_least, best_of, through, least_to_go}
@@ -31,7 +31,7 @@ module _ (f : ℕ → ℤ) where
     where
       go : {w v : ℕ} → Picked x w v → In w (y ∷ ys) → In v (x ∷ (y ∷ ys))
       go (former e l) i = inl e
-      go (latter e l) i = inr (rw e i)
+      go (latter e l) i = inr (subst (λ u. In u (y ∷ ys)) (sym e) i)
 
   least_le : (x : ℕ) (ys : List ℕ) {z : ℕ} → In z (x ∷ ys) → f (first_least f x ys) ≤ℤ f z
   least_le x [] (inl e) = rw e (≤ℤ_refl (f x))

@@ -181,19 +181,27 @@ module _ {A : Type 0} (lt : A → A → Bool) where
     none_before x [] h = refl
     none_before x (y ∷ ys) h = rw (asym x y h.0) (omega (arith, none_before x ys h.1))
 
+    none_first : (y : A) (ys : List A) → Rises (y ∷ ys) → count (λ z. lt z y) (y ∷ ys) ≡ 0
+    none_first y ys r = let b : bit (lt y y) ≡ 0 = ap bit (S.irrefl y) in omega (arith, b, none_before y ys r.0)
+
     one_before : (x y : A) (ys : List A) → Every (λ z. T (lt y z)) ys → In x ys → count (λ z. lt z x) (y ∷ ys) ≡ suc (count (λ z. lt z x) ys)
     one_before x y ys h i = rw (T_true (lt y x) (every_in (λ z. T (lt y z)) ys h x i)) (omega arith)
 
     -- in a list that rises, as many elements are before an entry as its place says
     pub rank : (s : List A) → Rises s → (j : ℕ) (x : A) → get_elem? s j ≡ some x → count (λ y. lt y x) s ≡ j
     rank [] r j x e = let z : ◌≡◌ {A = ℕ} 0 1 = cc in absurd (omega arith)
-    rank (y ∷ ys) r zero x e = let q : x ≡ y = cc in rw (q, S.irrefl y) (omega (arith, none_before y ys r.0))
+    rank (y ∷ ys) r zero x e =
+        let q : x ≡ y = cc in
+        subst (λ z. count (λ w. lt w z) (y ∷ ys) ≡ 0) (sym q)
+        (none_first y ys r)
     rank (y ∷ ys) r (suc j) x e = one_before x y ys r.0 (at_in ys j x e) ∙ ap suc (rank ys r.1 j x e)
 
     -- and each element stands at the place that says how many are before it
     pub unrank : (s : List A) → Rises s → (x : A) → In x s → get_elem? s (count (λ y. lt y x) s) ≡ some x
     unrank [] r x i = absurd i
-    unrank (y ∷ ys) r x (inl e) = rw (e, S.irrefl y, none_before y ys r.0)
+    unrank (y ∷ ys) r x (inl e) =
+        subst (λ z. get_elem? (y ∷ ys) (count (λ w. lt w z) (y ∷ ys)) ≡ some z) (sym e)
+        (ap (get_elem? (y ∷ ys)) (none_first y ys r))
     unrank (y ∷ ys) r x (inr i) = rw (one_before x y ys r.0 i) (unrank ys r.1 x i)
 
     rises_insert : (a : A) (s : List A) → Rises s → ((x : A) → In x s → lt a x ≡ false → T (lt x a)) → Rises (insert lt a s)
