@@ -1,11 +1,13 @@
 // Accepting a record: the questions 19, 1 to 14, 28, 20 and 21 for any bytes; and showing one policy of a record.
+#![tactic(auto)]
+
 ghost use Rattle.std.specs.Prelude.{◌≡◌};
 ghost use Rattle.model.specs.Questions.{first_no};
 ghost use Rattle.model.specs.Record.{carried_book, head_questions, accept_number};
 ghost use Rattle.model.specs.Calls.{accept_states, accept_count, shown};
 
 // The number of the first question that is answered no, or 0; how many states the book has and how many policies are listed, both 0 where the record is refused.
-#[derive(Drop)]
+#[derive(Clone, Copy)]
 pub struct Accepted {
     pub no: u32,
     pub s: usize,

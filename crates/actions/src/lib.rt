@@ -1,4 +1,6 @@
 // The questions 9 to 13 of one action.
+#![tactic(auto)]
+
 ghost use Rattle.std.specs.Prelude.{◌≡◌, true, ◌&&◌, cond, ◌+◌, ◌-◌, ◌<◌, ◌≤◌, eqb, pos, length};
 ghost use Rattle.model.specs.Lists.{all};
 ghost use Rattle.model.specs.Model.{word};
@@ -18,7 +20,7 @@ const MOST_BRANCHES: i32 = 6;
 const MOST_COST: usize = 100000;
 
 // What the actions of one state are asked by: its stage, how many states the next stage has, and the largest cost that question 13 allows.
-#[derive(Drop)]
+#[derive(Clone, Copy)]
 pub struct Limits {
     pub n: usize,
     pub width: usize,

@@ -1,4 +1,6 @@
 // The questions 1 to 14 and 28, which ranking, writing and accepting share.
+#![tactic(auto)]
+
 ghost use Rattle.std.specs.Prelude.{◌≡◌};
 ghost use Rattle.model.specs.Record.{asked_number};
 ghost use Rattle.asked.specs.Asked.{counted_number};

@@ -1,5 +1,7 @@
 // The first k of the policies that are handed in, at the front of two lent slices: their costs, and their bytes one after the other. They are handed in in
 // the order of their bytes, so one that costs as much as others goes after them, and no byte is compared.
+#![tactic(auto)]
+
 ghost use Rattle.std.specs.Prelude.{◌≡◌, [], ◌∷◌, ◌+◌, ◌*◌, ◌≤◌, ◌<◌, length, take};
 ghost use Rattle.std.specs.Int.Signed.{lt_z};
 ghost use Rattle.model.specs.Lists.{first_where};

@@ -1,4 +1,6 @@
 // Reading the words of a book: single words, the sizes, and the stage of each state in order.
+#![tactic(auto)]
+
 ghost use Rattle.std.specs.Prelude.{◌≡◌, ◌+◌, ◌<◌, ◌≤◌, pos, nat_abs, length};
 ghost use Rattle.std.specs.Int.Signed.{lt_z};
 ghost use Rattle.model.specs.Lists.{all};
@@ -8,7 +10,7 @@ ghost use Rattle.questions.specs.Sizes.{Sized};
 ghost use Rattle.book.specs.Read.{SizeIs, Headed, SizesAre, StageFor, StageNear};
 
 // The sizes that a book begins with, D, H, L and S of document 01, and the word at which its left column begins.
-#[derive(Drop)]
+#[derive(Clone, Copy)]
 pub struct Sizes {
     pub d: usize,
     pub h: usize,
@@ -21,7 +23,7 @@ pub struct Sizes {
 const CLOSED: i32 = 200000;
 
 // A stage, and the number of the first state after it.
-#[derive(Drop)]
+#[derive(Clone, Copy)]
 pub struct Stage {
     pub n: usize,
     pub end: usize,

@@ -1,10 +1,12 @@
 // Browsing: one record's bytes along with its S and k, carried from policy to policy.
+#![tactic(auto)]
+
 ghost use Rattle.std.specs.Prelude.{◌≡◌};
 ghost use Rattle.model.specs.Calls.{accept_states, accept_count, shown};
 ghost use Rattle.place.specs.Place.{browsed};
 
 // The bytes of a record, how many states its book has (s) and how many policies it lists (k). `open` gives both as 0 unless the record is accepted.
-#[derive(Drop)]
+#[derive(Clone, Copy)]
 pub struct Browser<'a> {
     pub record: &'a [u8],
     pub s: usize,

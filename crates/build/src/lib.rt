@@ -1,4 +1,6 @@
 // The bytes of a policy that keeps to another's bytes before one state, takes a given action there, and first best actions after it.
+#![tactic(auto)]
+
 ghost use Rattle.std.specs.Prelude.{◌≡◌, true, cond, [], ◌∷◌, ◌++◌, ◌+◌, ◌<◌, ◌≤◌, eqb, length, get_or, take, drop};
 ghost use Rattle.model.specs.Model.{state_count, action};
 ghost use Rattle.model.specs.Questions.{book_number};
@@ -70,7 +72,7 @@ fn choice(best: &[u8; 192], r: usize, c: usize, s: usize) -> usize
 }
 
 // The byte of a state, and the states known to be reached once its next states are too.
-#[derive(Drop)]
+#[derive(Clone, Copy)]
 pub struct Stepping {
     pub byte: u8,
     pub reach: u64,

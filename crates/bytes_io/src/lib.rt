@@ -1,4 +1,6 @@
 // Numbers in byte slices, low byte first: read, written and compared.
+#![tactic(auto)]
+
 ghost use Rattle.std.specs.Prelude.{◌≡◌, ◌+◌, ◌*◌, ◌<◌, ◌≤◌, length, take, drop};
 ghost use Rattle.model.specs.Lists.{for_each, same};
 ghost use Rattle.model.specs.Bytes.{bytes, signed_bytes, from_bytes, signed, words_of};

@@ -26,11 +26,13 @@
 // A call prints its letter, then its number and two figures, 0 where it has none, and all that the lent slices hold after it (for w and x the z costs too);
 // s and b print the bytes that they show. The figures of a call at the desk are the ranks that the rider holds and has committed to; k and all ranks
 // follow.
+#![tactic(auto)]
+
 ghost use Rattle.std.specs.Prelude.{◌<◌, ◌≤◌};
 
 use reservation::{Answer, Desk};
 
-#[derive(Drop)]
+#[derive(Clone, Copy)]
 struct Head {
     kind: u8,
     z: u8,

@@ -1,4 +1,6 @@
 // Checking a book: the questions 1 to 13. One walk over the lines answers 9 to 13.
+#![tactic(auto)]
+
 ghost use Rattle.std.specs.Prelude.{◌≡◌, ◌+◌, ◌*◌, ◌^◌, ◌/◌, ◌≤◌};
 ghost use Rattle.model.specs.Model.{action_count};
 ghost use Rattle.model.specs.Questions.{book_number};
@@ -10,7 +12,7 @@ use actions::Limits;
 use book::{Sizes, Stage};
 
 // How far a walk over the actions has come.
-#[derive(Drop)]
+#[derive(Clone, Copy)]
 pub struct Walk {
     // 9 where it stopped, else the lowest of 10 to 13 so far, or 0
     pub no: u32,

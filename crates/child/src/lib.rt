@@ -1,5 +1,7 @@
 // The child of a candidate at a state: its action, its barred actions, and its cost, which is its parent's, moved by the reach weight of the split state
 // times the difference of the two actions' costs.
+#![tactic(auto)]
+
 ghost use Rattle.std.specs.Prelude.{◌≡◌, cond, ◌<◌, ◌≤◌, pos, ◌+ℤ◌, ◌-ℤ◌, ◌*ℤ◌, eqb, get_or};
 ghost use Rattle.model.specs.Model.{state_count};
 ghost use Rattle.index.specs.Index.{Checked};
@@ -12,7 +14,7 @@ ghost use Rattle.child.specs.Children.{Parenting, entry_of, next_by, ChildIs};
 use book::Sizes;
 
 // The candidate whose first policy is listed: its cost, its split state and the set of actions barred there. Its bytes are lent beside it.
-#[derive(Drop)]
+#[derive(Clone, Copy)]
 pub struct Parent {
     pub cost: i64,
     pub split: usize,
@@ -20,7 +22,7 @@ pub struct Parent {
 }
 
 // A child: its cost, the action that it takes at its split state and the set of actions barred there.
-#[derive(Drop)]
+#[derive(Clone, Copy)]
 pub struct Child {
     pub cost: i64,
     pub action: usize,

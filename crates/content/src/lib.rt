@@ -1,1 +1,2 @@
 // A model by its content: definitions and laws in specs/, no code.
+#![tactic(auto)]

@@ -1,4 +1,6 @@
 // Converting a planners' table to a book: the questions 25 to 27, then 1 to 13 of the book, and its words at the front of the lent slice.
+#![tactic(auto)]
+
 ghost use Rattle.std.specs.Prelude.{◌≡◌, ◌≤◌, length};
 ghost use Rattle.model.specs.Questions.{first_no};
 ghost use Rattle.reward_table.specs.Table.{table_questions};
@@ -10,7 +12,7 @@ use reward_table::Table;
 use table_book::Sizes;
 
 // The number of the first question that is answered no, or 0; and the book's length in words, 0 where the call is refused.
-#[derive(Drop)]
+#[derive(Clone, Copy)]
 pub struct Converted {
     pub no: u32,
     pub length: usize,

@@ -1,4 +1,6 @@
 // Costs-to-go of the states of a checked book: one pass over its lines, from the last state to the first.
+#![tactic(auto)]
+
 ghost use Rattle.std.specs.Prelude.{◌≡◌, ◌+◌, ◌*◌, ◌^◌, ◌<◌, ◌≤◌, pos, nat_abs, ◌+ℤ◌, ◌*ℤ◌};
 ghost use Rattle.model.specs.Model.{state_count, action, scale, togo};
 ghost use Rattle.model.specs.Recursion.{expected, action_cost};

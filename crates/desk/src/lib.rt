@@ -1,5 +1,7 @@
 // The desk in the caller's memory: each call of a rider asks a method by value for its number, and writes what a granted one changes; opening puts the next
 // desk in the place of the one there.
+#![tactic(auto)]
+
 ghost use Rattle.std.specs.Prelude.{◌≡◌};
 ghost use Rattle.reservation.specs.Reservations.{held_by, committed_by, reply, asking, committing, cancelling, opening};
 

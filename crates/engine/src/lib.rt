@@ -4,6 +4,8 @@
 //
 // What is read of the book is lent: x (where each state stands), nx (the next states of each action), q (the
 // cost of each action) and best (the first and the second best action of each state, and its actions that no policy can take).
+#![tactic(auto)]
+
 ghost use Rattle.std.specs.Prelude.{◌≡◌, [], ◌∷◌, ◌+◌, ◌*◌, ◌<◌, ◌≤◌, length, get_or};
 ghost use Rattle.model.specs.Model.{state_count, action};
 ghost use Rattle.model.specs.Questions.{book_number};

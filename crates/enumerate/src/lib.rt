@@ -1,5 +1,7 @@
 // All policies of a checked book in the order of their bytes: the lowest, the one after each, and how many there are. The next policy is made from the one
 // before it and the lines of the book. `off` has the actions of each state that no policy can take, so that every step gives a policy.
+#![tactic(auto)]
+
 ghost use Rattle.std.specs.Prelude.{◌≡◌, true, ◌⊎◌, ◌*◌, ◌-◌, ◌≤◌, ◌<◌, length};
 ghost use Rattle.model.specs.Lists.{up_from};
 ghost use Rattle.model.specs.Model.{state_count};
@@ -41,7 +43,7 @@ fn higher_at(b: &[i32], z: Sizes, off: &[u8; 64], plan: &[u8], p: usize) -> usiz
 }
 
 // A state and an action of it.
-#[derive(Drop)]
+#[derive(Clone, Copy)]
 pub struct Raise {
     pub state: usize,
     pub action: usize,

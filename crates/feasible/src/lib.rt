@@ -1,5 +1,7 @@
 // Which actions of a checked book a policy can take: not those that are closed, nor those that lead to a state from which no policy goes on. One pass
 // over the actions, from the last state to the first.
+#![tactic(auto)]
+
 ghost use Rattle.std.specs.Prelude.{◌≡◌, ◌+◌, ◌<◌, ◌≤◌, length};
 ghost use Rattle.model.specs.Lists.{is_empty, up_from};
 ghost use Rattle.model.specs.Model.{state_count, action};

@@ -1,4 +1,6 @@
 // The page of a filed record: from the bytes that a program has read to those that it writes.
+#![tactic(auto)]
+
 ghost use Rattle.std.specs.Prelude.{◌≡◌, suc, length};
 ghost use Rattle.model.specs.Page.{record_page, most_page, most_record};
 ghost use Rattle.page_lines.specs.Put.{Put};

@@ -1,4 +1,6 @@
 // Filing: from K and a book, as a program has read them, to the bytes of the record.
+#![tactic(auto)]
+
 ghost use Rattle.std.specs.Prelude.{◌≡◌, length};
 ghost use Rattle.model.specs.Page.{filed, most_record};
 ghost use Rattle.page_lines.specs.Put.{Put};

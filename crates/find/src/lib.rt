@@ -1,4 +1,6 @@
 // Request 2.8, "Where is my plan?": the rank of a policy in the list of a book and K, or why it is not listed.
+#![tactic(auto)]
+
 ghost use Rattle.std.specs.Prelude.{◌≡◌, ◌+◌, ◌*◌, ◌≤◌, pos, nat_abs, length, take, drop};
 ghost use Rattle.model.specs.Standing.{place_in, beside_last};
 ghost use Rattle.model.specs.Calls.{find_number, find_answer, find_value};
@@ -7,7 +9,7 @@ ghost use Rattle.find.specs.Tells.{Tells};
 
 // The number of the first question that is answered no, or 0; which of the three answers: 1, the plan is listed, 2, it costs more than the last listed, 3, it
 // costs the same and takes the higher action; and the rank, the amount over D^H or the state. Both are 0 where the call is refused.
-#[derive(Drop)]
+#[derive(Clone, Copy)]
 pub struct Found {
     pub no: u32,
     pub answer: u32,

@@ -1,4 +1,6 @@
 // Request 2.8, "Where is my plan?": from a plan, K and a book, as a program has read them, to the line that says where the plan stands.
+#![tactic(auto)]
+
 ghost use Rattle.std.specs.Prelude.{◌≡◌, ◌+◌, ◌≤◌, length, get_or};
 ghost use Rattle.model.specs.Page.{plan_line, most_line};
 ghost use Rattle.text.specs.Text.{Appended};

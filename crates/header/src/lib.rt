@@ -1,4 +1,6 @@
 // The questions 1 to 8 of a book: its sizes and its counts.
+#![tactic(auto)]
+
 ghost use Rattle.std.specs.Prelude.{◌≡◌, ◌<◌, ◌≤◌, length};
 ghost use Rattle.model.specs.Model.{word};
 ghost use Rattle.model.specs.Questions.{first_no, sizes_allowed, length_allowed, counts_allowed, size_questions};

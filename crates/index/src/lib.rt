@@ -1,4 +1,6 @@
 // Where each state of a checked book stands in its lines and in its stages, so that every later pass can go straight there.
+#![tactic(auto)]
+
 ghost use Rattle.std.specs.Prelude.{◌≡◌, ◌+◌, ◌<◌, ◌≤◌, length};
 ghost use Rattle.model.specs.Model.{word, state_count, state_line, action_count, action_line};
 ghost use Rattle.book.specs.Read.{SizeIs};

@@ -1,4 +1,6 @@
 // K and a book from the bytes that a program has read.
+#![tactic(auto)]
+
 ghost use Rattle.std.specs.Prelude.{◌≡◌, ◌≤◌, length};
 ghost use Rattle.model.specs.Page.{most_input};
 ghost use Rattle.input.specs.Read.{Read};

@@ -1,4 +1,6 @@
 // The calls of the library for C and other languages. A lent slice crosses as a pointer and a length; a figure is written through a pointer.
+#![tactic(auto)]
+
 ghost use Rattle.std.specs.Prelude.{◌≡◌, length, take, drop};
 ghost use Rattle.model.specs.Questions.{book_number};
 ghost use Rattle.model.specs.Record.{accept_number};

@@ -1,4 +1,5 @@
 // The filing program: K and a book from standard input, the record to standard output.
+#![tactic(auto)]
 
 // The read goes on until the buffer is full or the input ends, since one read may give only a part.
 fn main() {

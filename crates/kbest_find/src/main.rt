@@ -1,4 +1,5 @@
 // The program that says where a plan stands: a plan, K and a book from standard input, one line to standard output.
+#![tactic(auto)]
 
 // The read goes on until the buffer is full or the input ends, since one read may give only a part.
 fn main() {

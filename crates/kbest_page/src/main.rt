@@ -1,4 +1,5 @@
 // The program that prints the page of a filed record: a record from standard input, the page to standard output.
+#![tactic(auto)]
 
 // The read goes on until the buffer is full or the input ends, since one read may give only a part.
 fn main() {

@@ -1,4 +1,5 @@
 // The converting program: a planners' table from standard input, its book to standard output.
+#![tactic(auto)]
 
 // The read goes on until the buffer is full or the input ends, since one read may give only a part.
 fn main() {

@@ -1,9 +1,11 @@
 // The least cost of a book: the questions 1 to 13 and 28, and the cost of its first policy over D^H.
+#![tactic(auto)]
+
 ghost use Rattle.std.specs.Prelude.{◌≡◌};
 ghost use Rattle.model.specs.Calls.{least_number, least_cost};
 
 // The number of the first question that is answered no, or 0; and the least cost, 0 where the book is refused.
-#[derive(Drop)]
+#[derive(Clone, Copy)]
 pub struct LeastCost {
     pub no: u32,
     pub cost: i64,

@@ -1,4 +1,6 @@
 // Request 2.10, "At most m hill climbs": the rank of the first listed policy none of whose sample paths takes more than m marked actions.
+#![tactic(auto)]
+
 ghost use Rattle.std.specs.Prelude.{◌≡◌, ◌*◌, ◌≤◌, length};
 ghost use Rattle.model.specs.Lists.{first_where};
 ghost use Rattle.model.specs.Model.{state_count};
@@ -13,7 +15,7 @@ use book::Sizes;
 
 // The number of the first question that is answered no, or 0; which of the three answers: 1, a listed plan keeps the limit, 2, none in the list does, 3, none in
 // the book does; and the rank of the first that does. Both are 0 where the call is refused, and the rank is 0 where there is none.
-#[derive(Drop)]
+#[derive(Clone, Copy)]
 pub struct Limited {
     pub no: u32,
     pub answer: u32,

@@ -1,4 +1,6 @@
 // Request 2.10, "At most m hill climbs": from m, marks, K and a book, as a program has read them, to the line that says which listed plan keeps the limit.
+#![tactic(auto)]
+
 ghost use Rattle.std.specs.Prelude.{◌≡◌, ◌+◌, ◌≤◌, length};
 ghost use Rattle.model.specs.Page.{mark_count, limit_line, most_line};
 ghost use Rattle.text.specs.Text.{Appended};

@@ -1,5 +1,7 @@
 // The lines of one action of a checked book: where they lie and what they say. Every pass over transitions reads them here. The look-ups take p and c
 // so that their contracts can name the action.
+#![tactic(auto)]
+
 ghost use Rattle.std.specs.Prelude.{◌≡◌, ◌+◌, ◌<◌, ◌≤◌};
 ghost use Rattle.model.specs.Model.{first_state, state_count, stage, action_count, action_line, action, closed};
 ghost use Rattle.model.specs.Questions.{book_number};
@@ -11,7 +13,7 @@ use book::{Sizes, Stage};
 
 // Where the lines of an action lie: its first line at word `at`, its r transitions in the words after that. What stands in the right column is
 // l words further on. Next states are counted from state `base`.
-#[derive(Drop)]
+#[derive(Clone, Copy)]
 pub struct Lines {
     pub at: usize,
     pub r: usize,
@@ -20,7 +22,7 @@ pub struct Lines {
 }
 
 // Where an action of a state begins, and where the lines of the next state do.
-#[derive(Drop)]
+#[derive(Clone, Copy)]
 pub struct Found {
     pub at: usize,
     pub after: usize,

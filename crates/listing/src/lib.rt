@@ -1,4 +1,6 @@
 // The ranked list of a book by value, for every call that works on it: writing, accepting and printing.
+#![tactic(auto)]
+
 ghost use Rattle.std.specs.Prelude.{◌≡◌, length};
 ghost use Rattle.model.specs.Model.{state_count};
 ghost use Rattle.asked.specs.Asked.{Counted};

@@ -1,5 +1,7 @@
 // Request 2.10: question 29, and the most marked actions that a sample path of a policy takes (document 01: marked choices of a day of a plan), by one
 // pass over the states from the last to the first.
+#![tactic(auto)]
+
 ghost use Rattle.std.specs.Prelude.{◌≡◌, ◌+◌, ◌≤◌, length, take, drop};
 ghost use Rattle.model.specs.Lists.{every};
 ghost use Rattle.model.specs.Model.{state_count, action};

@@ -1,4 +1,6 @@
 // The next states of every action as a set, so that a walk over the states of a policy needs no line of the book.
+#![tactic(auto)]
+
 ghost use Rattle.std.specs.Prelude.{◌≡◌, ◌<◌, length};
 ghost use Rattle.model.specs.Model.{state_count, action_count, action};
 ghost use Rattle.model.specs.Policy.{nexts};

@@ -1,4 +1,6 @@
 // The printed page: from the bytes that a program has read to those that it writes.
+#![tactic(auto)]
+
 ghost use Rattle.std.specs.Prelude.{◌≡◌, ◌≤◌, length};
 ghost use Rattle.model.specs.Page.{or_refused, list_page, page, most_page};
 ghost use Rattle.asked.specs.Asked.{Asked};

@@ -1,4 +1,6 @@
 // The lines of the printed page: a refusal, the title, and a line for each policy of a list; and room for the line of one answer.
+#![tactic(auto)]
+
 ghost use Rattle.std.specs.Prelude.{◌≡◌, ◌+◌, ◌*◌, ◌≤◌, length};
 ghost use Rattle.model.specs.Page.{refused_line, most_line};
 ghost use Rattle.record.specs.Listed.{Held};

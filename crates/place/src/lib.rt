@@ -1,9 +1,11 @@
 // Where policy j lies in a record: one lookup for any bytes and figures, which showing and browsing call.
+#![tactic(auto)]
+
 ghost use Rattle.std.specs.Prelude.{◌≡◌};
 ghost use Rattle.place.specs.Place.{place_of, browsed};
 
 // A part of a slice: where it begins, and how many bytes it has.
-#[derive(Drop)]
+#[derive(Clone, Copy)]
 pub struct Place {
     pub from: usize,
     pub size: usize,

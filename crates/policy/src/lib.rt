@@ -1,5 +1,7 @@
 // Question 17 and the cost of a policy, by one pass over the states in order. Next states are later states, so what the pass has for a state when it
 // comes there is its reach weight: the state is reached if that is not 0, and then adds its action's cost times the weight.
+#![tactic(auto)]
+
 ghost use Rattle.std.specs.Prelude.{◌≡◌, true, ◌<◌};
 ghost use Rattle.model.specs.Lists.{is_in};
 ghost use Rattle.model.specs.Model.{state_count, action_count, options};
@@ -12,7 +14,7 @@ ghost use Rattle.reach.specs.Weights.{first_weights, Holds};
 use book::{Sizes, Stage};
 
 // Is a slice of bytes a policy, and what it costs if it is.
-#[derive(Drop)]
+#[derive(Clone, Copy)]
 pub struct Judged {
     pub is: bool,
     pub cost: i64,

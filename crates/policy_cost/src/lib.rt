@@ -1,5 +1,7 @@
 // The cost of a policy by the index of its book: equation (4), one pass over the states that it reaches, from the last to the first. For whoever values many
 // policies of one book; they are known to be policies.
+#![tactic(auto)]
+
 ghost use Rattle.std.specs.Prelude.{◌≡◌, ◌<◌, T, length};
 ghost use Rattle.model.specs.Model.{scale, togo, state_count, action};
 ghost use Rattle.model.specs.Policy.{is_policy};

@@ -1,5 +1,7 @@
 // The candidates that wait in the search, in order. The slots are reached through `order`, so that an insertion moves numbers and not plans. A search
 // holds its pool by value; the functions here are lent the fields that they read or change.
+#![tactic(auto)]
+
 ghost use Rattle.std.specs.Prelude.{◌≡◌, [], ◌∷◌, ◌+◌, ◌*◌, ◌<◌, ◌≤◌, length, get_or, take, replicate};
 ghost use Rattle.std.proofs.Math.Seq.{paste};
 ghost use Rattle.model.specs.Order.{lower};

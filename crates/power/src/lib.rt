@@ -1,4 +1,6 @@
 // Powers, by multiplication.
+#![tactic(auto)]
+
 ghost use Rattle.std.specs.Prelude.{◌≡◌, ◌/◌, ◌%◌, ◌^◌, ◌≤◌};
 ghost use Rattle.model.specs.Calls.{power_of};
 

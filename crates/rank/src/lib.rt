@@ -1,4 +1,6 @@
 // The K best policies of a book: the questions 1 to 14, 28, 15 and 16, and the list in the two lent slices.
+#![tactic(auto)]
+
 ghost use Rattle.std.specs.Prelude.{◌≡◌, cond};
 ghost use Rattle.model.specs.Questions.{book_number};
 ghost use Rattle.model.specs.Policy.{has_policy};
@@ -7,7 +9,7 @@ ghost use Rattle.rank.specs.Short.{short_number};
 ghost use Rattle.model.specs.Calls.{room_of, rank_number, rank_count, rank_costs, rank_plans};
 
 // The number of the first question that is answered no, or 0; and how many policies are listed, 0 where the call is refused.
-#[derive(Drop)]
+#[derive(Clone, Copy)]
 pub struct Ranking {
     pub no: u32,
     pub k: usize,

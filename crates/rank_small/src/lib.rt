@@ -1,5 +1,7 @@
 // The K best policies of a book with at most 4,096 of them, by going through all of them in the order of their bytes (request 2.11). Each is made from the
 // one before it and valued by itself.
+#![tactic(auto)]
+
 ghost use Rattle.std.specs.Prelude.{◌≡◌, true, ◌≤◌, T, length, take};
 ghost use Rattle.model.specs.Model.{state_count};
 ghost use Rattle.model.specs.Policy.{is_policy, policies, has_policy};
@@ -15,7 +17,7 @@ ghost use Rattle.rank_small.specs.Small.{RoomFor, SmallRanked};
 use book::Sizes;
 
 // The number of the first question that is answered no, or 0; and how many policies are listed, 0 where the call is refused.
-#[derive(Drop)]
+#[derive(Clone, Copy)]
 pub struct Ranking {
     pub no: u32,
     pub k: usize,

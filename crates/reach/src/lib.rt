@@ -1,4 +1,6 @@
 // The reach weights of a policy of a checked book. Next states are later states, so one pass over the states in order computes all of them.
+#![tactic(auto)]
+
 ghost use Rattle.std.specs.Prelude.{◌≡◌, true, ◌<◌, length};
 ghost use Rattle.model.specs.Model.{state_count, action_count, action};
 ghost use Rattle.model.specs.Policy.{is_policy};

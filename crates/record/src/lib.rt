@@ -1,4 +1,6 @@
 // The filed record: its bytes written, and its questions 19 to 21.
+#![tactic(auto)]
+
 ghost use Rattle.std.specs.Prelude.{◌≡◌, ◌+◌, ◌*◌, ◌<◌, ◌≤◌, length, take, drop};
 ghost use Rattle.model.specs.Lists.{same};
 ghost use Rattle.model.specs.Model.{state_count};

@@ -1,5 +1,7 @@
 // Reservations: ranks of one accepted record, for sixteen riders. A rank is held on asking and theirs on committing. Each call takes a desk by value and
 // gives the next. Its number alone is had too, for a desk that is lent, where only what a granted call changes is written.
+#![tactic(auto)]
+
 ghost use Rattle.std.specs.Prelude.{◌≡◌, not, ◌||◌, ◌%◌, eqb, get_or, replicate};
 ghost use Rattle.model.specs.Questions.{first_no};
 ghost use Rattle.reservation.specs.Reservations.{held_by, committed_by, free, ask_questions, commit_questions, cancel_questions, open_for, holding, taking, answer, asking, committing, cancelling};
@@ -9,7 +11,7 @@ const RIDERS: usize = 16;
 
 // What is reserved (document 02: the desk): which rank of the record is whose.
 #[repr(C)]
-#[derive(Drop)]
+#[derive(Clone, Copy)]
 pub struct Desk {
     // how many plans the record lists, at most 64; 0 before a record is opened
     pub k: u8,
@@ -20,7 +22,7 @@ pub struct Desk {
 }
 
 // The number of a call and the desk afterwards.
-#[derive(Drop)]
+#[derive(Clone, Copy)]
 pub struct Answer {
     pub no: u32,
     pub desk: Desk,

@@ -1,4 +1,6 @@
 // Planners' reward tables: their sizes, and their questions 25 and 26.
+#![tactic(auto)]
+
 ghost use Rattle.std.specs.Prelude.{◌≡◌, ◌+◌, ◌<◌, ◌≤◌, nat_abs, ◌+ℤ◌, length};
 ghost use Rattle.model.specs.Model.{word};
 ghost use Rattle.model.specs.Questions.{first_no, inside};
@@ -6,7 +8,7 @@ ghost use Rattle.reward_table.specs.Table.{table_states, table_state_line, sizes
 ghost use Rattle.reward_table.specs.Read.{Given, TableRead, entry_given, Walked, WalkedTo};
 
 // The sizes that a table begins with, D, H, n, the first state and L, and the word at which its left column begins.
-#[derive(Drop)]
+#[derive(Clone, Copy)]
 pub struct Table {
     pub d: usize,
     pub h: usize,
@@ -17,7 +19,7 @@ pub struct Table {
 }
 
 // How far a walk over the actions has come: is each of them as asked, and the line after the last.
-#[derive(Drop)]
+#[derive(Clone, Copy)]
 pub struct Walk {
     pub ok: bool,
     pub at: usize,

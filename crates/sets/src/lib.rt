@@ -1,4 +1,6 @@
 // Sets of numbers as the bits of a number: of up to 8 actions in a byte, of up to 64 states in 64 bits.
+#![tactic(auto)]
+
 ghost use Rattle.std.specs.Prelude.{◌≡◌, ◌<◌};
 ghost use Rattle.sets.specs.Sets.{has, with, union};
 

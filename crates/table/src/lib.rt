@@ -1,4 +1,6 @@
 // The least cost-to-go of every state and the cost of every action: equation (5), one pass over the lines from the last state to the first.
+#![tactic(auto)]
+
 ghost use Rattle.std.specs.Prelude.{◌≡◌, cond, ◌+◌, ◌*◌, ◌<◌, ◌≤◌, pos, length, get_or};
 ghost use Rattle.std.specs.Int.Signed.{lt_z};
 ghost use Rattle.model.specs.Lists.{up_from};

@@ -1,4 +1,6 @@
 // The book of a planners' table: its sizes, and its words, put to the front of a slice.
+#![tactic(auto)]
+
 ghost use Rattle.std.specs.Prelude.{◌≡◌, ◌+◌, ◌*◌, ◌-◌, ◌<◌, ◌≤◌, nat_abs, length, take, drop, replicate};
 ghost use Rattle.model.specs.Model.{word};
 ghost use Rattle.model.specs.Calls.{over};
@@ -12,7 +14,7 @@ ghost use Rattle.table_book.specs.Read.{SizesOf, Passed, Made};
 use reward_table::Table;
 
 // The sizes of the book that a table gives.
-#[derive(Drop)]
+#[derive(Clone, Copy)]
 pub struct Sizes {
     // the first line of the table's first state, and how many lines that state has
     pub from: usize,

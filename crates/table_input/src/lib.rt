@@ -1,4 +1,6 @@
 // From a table's bytes, as a program has read them, to the bytes of its book.
+#![tactic(auto)]
+
 ghost use Rattle.std.specs.Prelude.{◌≡◌, ◌≤◌, length};
 ghost use Rattle.page_lines.specs.Put.{Put};
 ghost use Rattle.table_input.specs.Bytes.{most_table, most_book, book_bytes};

@@ -1,5 +1,7 @@
 // Text in a byte slice: numbers in base ten, and one line of the printed page. Each function writes from index `at` on and gives the index after its
 // text, which is at most as long as the room that it asks for.
+#![tactic(auto)]
+
 ghost use Rattle.std.specs.Prelude.{◌≡◌, [], ◌∷◌, ◌+◌, ◌*◌, ◌<◌, ◌≤◌, nat_abs, length};
 ghost use Rattle.model.specs.Lists.{for_each};
 ghost use Rattle.model.specs.Page.{decimal, signed_decimal, choice_text};

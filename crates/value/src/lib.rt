@@ -1,9 +1,11 @@
 // Valuing one policy: the questions 1 to 13 and 17, and its exact cost over D^H.
+#![tactic(auto)]
+
 ghost use Rattle.std.specs.Prelude.{◌≡◌};
 ghost use Rattle.model.specs.Calls.{value_number, value_cost};
 
 // The number of the first question that is answered no, or 0; and the cost, 0 where it is refused.
-#[derive(Drop)]
+#[derive(Clone, Copy)]
 pub struct Valued {
     pub no: u32,
     pub cost: i64,

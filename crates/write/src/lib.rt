@@ -1,9 +1,11 @@
 // Writing a record: the questions 1 to 14, 28 and 18, and the record's bytes at the front of the lent slice.
+#![tactic(auto)]
+
 ghost use Rattle.std.specs.Prelude.{◌≡◌, length};
 ghost use Rattle.model.specs.Calls.{write_number, write_length, write_record};
 
 // The number of the first question that is answered no, or 0; and the record's length, 0 where the call is refused.
-#[derive(Drop)]
+#[derive(Clone, Copy)]
 pub struct Written {
     pub no: u32,
     pub length: usize,
