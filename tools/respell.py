@@ -111,7 +111,7 @@ def main():
         for a, b in sorted(pairs.items()):
             print(a, b)
         return
-    ghost = {a: b for a, b in pairs.items() if "-" not in a}
+    ghost = {a: b for a, b in pairs.items() if "-" not in a and re.search("[a-z][A-Z]|′", a)}
     for path in files((".antt", ".rt", ".edit", ".md"), ("crates", "docs", "README.md")):
         text = old = read(path)
         if path.endswith(".antt"):

@@ -45,7 +45,7 @@ pub fn child_cost(q: &[i64; 512], w: &[usize; 64], p: usize, c: usize, f: usize,
 }
 
 // The set of actions barred at state p when a candidate is split there: its own action f, and at its own split state what was barred before.
-pub fn mask_at_lem(split: usize, mask: u8, p: usize, f: usize) -> u8
+pub fn mask_at(split: usize, mask: u8, p: usize, f: usize) -> u8
     requires { f < 8 }
     ensures { result ≡ with (cond (eqb p split) mask 0) f }
 {
@@ -106,7 +106,7 @@ pub fn child_at(
     if f == 255 {
         return no_child();
     }
-    let mask = mask_at_lem(e.split, e.mask, p, f);
+    let mask = mask_at(e.split, e.mask, p, f);
     let c = next_action(b, z, q, best, e.split, p, mask);
     if c == 255 {
         return no_child();

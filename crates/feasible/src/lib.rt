@@ -67,7 +67,7 @@ fn barred_at(b: &[i32], z: Sizes, x: &[usize; 192], p: usize, dead: u64) -> u8
         if !goes_on(b, a, p, c, dead) {
             mask = sets::with8(mask, c as u8);
         }
-        j = index::line_after_lem(b, z, p, c, j);
+        j = index::line_after(b, z, p, c, j);
         c = c + 1;
     }
     mask

@@ -17,7 +17,7 @@ pub fn plain_at(b: &[i32], i: usize) -> usize
 }
 
 // The line after those of action c of state p, whose first line is line j.
-pub fn line_after_lem(b: &[i32], z: Sizes, p: usize, c: usize, j: usize) -> usize
+pub fn line_after(b: &[i32], z: Sizes, p: usize, c: usize, j: usize) -> usize
     requires { Checked b.now z × ActionAt b.now p c j }
     ensures { result ≡ action_line b.now p (c + 1) }
 {
@@ -32,7 +32,7 @@ pub fn action_line(b: &[i32], z: Sizes, p: usize, line: usize, c: usize) -> usiz
     let mut j = line;
     let mut d: usize = 0;
     while d < c {
-        j = line_after_lem(b, z, p, d, j);
+        j = line_after(b, z, p, d, j);
         d = d + 1;
     }
     j

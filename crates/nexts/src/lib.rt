@@ -43,7 +43,7 @@ fn fill_state(b: &[i32], z: Sizes, x: &[usize; 192], p: usize, off: u8, t: &mut 
             let y = next_set(b, a, p, c);
             t[8 * p + c] = y;
         }
-        j = index::line_after_lem(b, z, p, c, j);
+        j = index::line_after(b, z, p, c, j);
         c = c + 1;
     }
 }

@@ -75,7 +75,7 @@ fn fill_row(
             let y = costs::action_cost(b, a, p, c, unit, v);
             q[8 * p + c] = y;
         }
-        j = index::line_after_lem(b, z, p, c, j);
+        j = index::line_after(b, z, p, c, j);
         c = c + 1;
     }
 }

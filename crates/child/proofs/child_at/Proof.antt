@@ -63,28 +63,28 @@ returns-2 c =
     let s = t.before.before.before.before.before.before in
     none_is (ws s) (en s) s.args.p _ c.no-child2.ensures
     (λ k es. none (ws s) s.requires.0.ok s.args.q.now s.requires.1 (en s) s.requires.4.right s.args.p s.requires.5 s.requires.6 k es
-    t.before.before.before.if1.false s.args.best.now s.requires.2 s.requires.3 _ _ t.before.before.mask_at_lem.ensures t.before.next-action.ensures t.if2.true)
+    t.before.before.before.if1.false s.args.best.now s.requires.2 s.requires.3 _ _ t.before.before.mask_at.ensures t.before.next-action.ensures t.if2.true)
 
 -- where an action is left
 module _ (c : tie.Else2) where
   abbrev s : tie.Start
   s = c.before.before.before.before.before.before
 
-  child : ChildAt (ws s) (en s) s.args.p c.before.next-action.result c.before.before.mask_at_lem.result
+  child : ChildAt (ws s) (en s) s.args.p c.before.next-action.result c.before.before.mask_at.result
   child =
       child_at_lem (ws s) s.pre.0.ok s.args.q.now s.pre.1 (en s) s.pre.4.right s.args.p s.pre.5 s.pre.6 0 []
-      c.before.before.before.if1.false s.args.best.now s.pre.2 s.pre.3 _ _ c.before.before.mask_at_lem.ensures c.before.next-action.ensures c.if2.false
+      c.before.before.before.if1.false s.args.best.now s.pre.2 s.pre.3 _ _ c.before.before.mask_at.ensures c.before.next-action.ensures c.if2.false
 
   known : Facts (ws s) s.args.q.now (en s) s.args.w.now s.args.p c.before.next-action.result
       (get_or s.args.plan.now s.args.p 0)
   known =
       facts (ws s) s.pre.0.ok s.args.q.now s.pre.1 (en s) s.pre.4.right s.args.w.now
-      s.pre.4.weights s.args.p c.before.next-action.result c.before.before.mask_at_lem.result child
+      s.pre.4.weights s.args.p c.before.next-action.result c.before.before.mask_at.result child
 
   joins : (k : ℕ) (es : List Entry) → joined k (child_entry (ws s) (en s) s.args.p) es ≡ admitted (ws s) k (en s) s.args.p es
   joins k es =
       one (ws s) s.pre.0.ok s.args.q.now s.pre.1 (en s) s.pre.4.right s.args.p s.pre.5 s.pre.6 k es
-      c.before.before.before.if1.false s.args.best.now s.pre.2 s.pre.3 _ _ c.before.before.mask_at_lem.ensures c.before.next-action.ensures c.if2.false
+      c.before.before.before.if1.false s.args.best.now s.pre.2 s.pre.3 _ _ c.before.before.mask_at.ensures c.before.next-action.ensures c.if2.false
 
   -- the cost that is passed on is the child's
   money : (r : ℤ)

@@ -5,8 +5,8 @@ use mathlib.Core.Bool.{Bool, cond}
 use borrow.Author.Tests.{eq-eqb, ne_eqb}
 use Rattle.sets.specs.Sets.{with}
 use borrow.Author.Rules.{rules}
-use Rattle.child.proofs.mask_at_lem.Statement.{statement}
-use Rattle.child.proofs.mask_at_lem.Tie as tie
+use Rattle.child.proofs.mask_at.Statement.{statement}
+use Rattle.child.proofs.mask_at.Tie as tie
 
 cast-with8 : tie.Need-overflow-cast-with8
 cast-with8 c = search rules

@@ -87,7 +87,7 @@ loop-again c =
           (λ t. subst (MaskTo ws s.args.p s.args.dead (l.loop.c + 1)) (sym t.1)
           (mask_on ws s.args.p s.args.dead l.loop.c l.loop.mask m (yes' {p = goes_by ws s.args.dead s.args.p l.loop.c} g.goes_on.ensures t.0.left)))
           a.if1.branch,
-      c.line_after_lem.ensures,
+      c.line_after.ensures,
     )
 
 returns : tie.Need-returns invariant-loop decreases-loop

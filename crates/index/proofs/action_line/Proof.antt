@@ -31,7 +31,7 @@ loop-less : tie.Need-loop-smaller invariant-loop decreases-loop
 loop-less c = search rules
 
 loop-again : tie.Need-loop-preserved invariant-loop decreases-loop
-loop-again c = (omega arith, c.line_after_lem.ensures)
+loop-again c = (omega arith, c.line_after.ensures)
 
 returns : tie.Need-returns invariant-loop decreases-loop
 returns c =

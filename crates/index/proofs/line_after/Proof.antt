@@ -7,8 +7,8 @@ use Rattle.model.specs.Model.{Words, branches}
 use Rattle.book.proofs.Columns.{branches_are}
 use Rattle.index.proofs.Lines.{Inside, lines_inside, line_next}
 use Rattle.index.proofs.Signs.{line_up}
-use Rattle.index.proofs.line_after_lem.Statement.{statement}
-use Rattle.index.proofs.line_after_lem.Tie as tie
+use Rattle.index.proofs.line_after.Statement.{statement}
+use Rattle.index.proofs.line_after.Tie as tie
 
 module _ (s : tie.Start) where
   abbrev ws : Words

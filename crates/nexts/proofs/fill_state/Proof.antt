@@ -107,7 +107,7 @@ loop-again c =
           (one_skipped (ws t) p i.c i.t i.inv.3
           (off_none (ws t) p (s t).args.off i.c (s t).requires.2 (here t).action (yes' a.before.has8.ensures w.0.left))))
           a.if1.branch,
-      c.line_after_lem.ensures,
+      c.line_after.ensures,
     )
 
 returns : tie.Need-returns invariant-loop decreases-loop
