@@ -1,0 +1,20 @@
+-- The transitions passed so far are allowed, and prev is the last next state.
+-- Assumes nothing.
+use mathlib.Core.Path.{◌≡◌, refl, sym, ◌∙◌}
+use mathlib.Core.Bool.{true}
+use Prim.Native.Nat.{◌-◌, ◌≤◌}
+use native.Mathlib.Omega.{arith}
+use mir.Syntax.{w32}
+use mir.Val.{to_z}
+use Rattle.model.specs.Lists.{all}
+use Rattle.questions.specs.Ranges.{and_right, all_fails, all_more}
+use Rattle.book.proofs.Words.{no, yes', read32}
+use Rattle.actions.specs.Action.{prev_at, next_above, next_allowed}
+use Rattle.actions.proofs.Steps.{prev_step}
+use Rattle.actions.proofs.nexts_allowed.Given as goal
+
+abbrev pub invariant-loop-i : goal.invariant-loop-i
+invariant-loop-i l = (l.i ≤ l.r) × (to_z w32 l.prev ≡ prev_at l.b l.at l.i) × (all l.i (next_allowed l.b l.at l.width) ≡ true)
+
+abbrev pub decreases-loop-i : goal.decreases-loop-i
+decreases-loop-i l = l.r - l.i

@@ -1,0 +1,16 @@
+-- The first s states are passed.
+-- Assumes nothing.
+use mathlib.Core.Path.{◌≡◌, subst}
+use Prim.Native.Nat.{ℕ, ◌≤◌, ◌-◌}
+use native.Mathlib.Omega.{arith}
+use Rattle.accepted.specs.Facts.{accepted}
+use Rattle.build.specs.Walk.{Passed}
+use Rattle.sets.specs.Sets.{first-set}
+use Rattle.build.proofs.Prefix.{passed_none}
+use Rattle.build.proofs.reached_before.Given as goal
+
+abbrev pub invariant-loop-s : goal.invariant-loop-s
+invariant-loop-s l = (l.s ≤ l.r) × Passed l.b l.plan l.s l.reach
+
+abbrev pub decreases-loop-s : goal.decreases-loop-s
+decreases-loop-s l = l.r - l.s

@@ -1,0 +1,14 @@
+-- The bytes still to be copied, written over what stands there now, give the result.
+-- Assumes nothing.
+use mathlib.Core.Path.{◌≡◌, refl}
+use Prim.Native.Nat.{◌+◌, ◌-◌}
+use native.Mathlib.Omega.{arith}
+use lib.ListN.{take, drop}
+use Rattle.bytes_io.proofs.Parts.{Filling, fill_start, fill_one, fill_end, part_step}
+use Rattle.bytes_io.proofs.write_bytes.Given as goal
+
+abbrev pub invariant-loop-i : goal.invariant-loop-i
+invariant-loop-i l = Filling l.initial.out l.at l.n (take l.n l.src) l.out l.i (take (l.n - l.i) (drop l.i l.src))
+
+abbrev pub decreases-loop-i : goal.decreases-loop-i
+decreases-loop-i l = l.n - l.i

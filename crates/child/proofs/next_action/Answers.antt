@@ -1,0 +1,58 @@
+-- One answer at the split state and one after it.
+-- Assumes nothing.
+use mathlib.Core.Path.{ap, ◌∙◌}
+use Prim.Native.Nat.{◌+◌, ◌<◌}
+use native.Mathlib.Omega.{arith}
+use borrow.Author.Tests.{eq-eqb, ne_eqb}
+use lib.ListN.{get_or}
+use Rattle.model.specs.Lists.{up_from}
+use Rattle.model.specs.Recursion.{best_of}
+use Rattle.accepted.specs.Facts.{accepted}
+use Rattle.sets.specs.Sets.{free, free-union}
+use Rattle.table.specs.Table.{row_of}
+use Rattle.child.proofs.next_action.Goals as goal
+use Rattle.child.proofs.next_action.Goals.{Start}
+
+below_64 : (s : goal.Start) → s.args.p < 64
+below_64 s = omega (arith, s.requires.2, (accepted s.args.b.now s.requires.0.ok).sizes.s_high)
+
+pub count-n-requires : goal.count-n-requires
+count-n-requires c = let s = c in (s.requires.0, s.requires.2)
+
+pub overflow_add-p : goal.overflow_add-p
+overflow_add-p c = omega (arith, below_64 (goal.at.overflow_add-p c).Start)
+
+pub bounds-best-p : goal.bounds-best-p
+bounds-best-p c = omega (arith, below_64 (goal.at.bounds-best-p c).Start)
+
+pub best_action-requires : goal.best_action-requires
+best_action-requires c =
+    let s = (goal.at.best_action-requires c).Start in
+    (below_64 s, omega (arith, c.count-n.ensures, (accepted s.args.b.now s.requires.0.ok).counts_high s.args.p s.requires.2))
+
+pub returns-then-split-p : goal.returns-then-split-p
+returns-then-split-p c =
+    let u = c in
+    let n = u in
+    let s = n in
+    let f = row_of s.args.q.now s.args.p in
+    let off = get_or s.args.best.now (128 + s.args.p) 0 in
+    rw (eq-eqb s.args.split s.args.p n.if-split-p.true)
+    (c.best_action.ensures
+    ∙ ap (λ m. best_of f (free m (up_from 0 n.count-n.result))) u.union8-all.ensures
+    ∙ ap (best_of f) (free-union s.args.mask off (up_from 0 n.count-n.result))
+    ∙ ap (λ k. best_of f (free s.args.mask (free off (up_from 0 k)))) n.count-n.ensures)
+
+pub overflow_add-p-2 : goal.overflow_add-p-2
+overflow_add-p-2 c = omega (arith, below_64 (goal.at.overflow_add-p-2 c).Start)
+
+pub bounds-best-p-2 : goal.bounds-best-p-2
+bounds-best-p-2 c = omega (arith, below_64 (goal.at.bounds-best-p-2 c).Start)
+
+pub wide8-requires : goal.wide8-requires
+wide8-requires c = tt
+
+pub returns : goal.returns
+returns c =
+    let s = c in
+    rw (ne_eqb s.args.split s.args.p c.if-split-p.false) c.wide8.ensures

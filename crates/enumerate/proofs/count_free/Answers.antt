@@ -1,0 +1,51 @@
+-- Assumes nothing.
+use mathlib.Core.Path.{◌≡◌, sym, ap}
+use mathlib.Core.Logic.{⊎_elim}
+use Prim.Native.Nat.{◌+◌, ◌-◌, ◌≤◌}
+use native.Mathlib.Nat.{sub-zero}
+use native.Mathlib.Omega.{arith}
+use lib.ListN.{length}
+use Rattle.book.proofs.Words.{no, yes'}
+use Rattle.enumerate.proofs.Free.{free_from, none_left, free_more, free-later}
+use Rattle.enumerate.proofs.count_free.Goals as goal
+
+pub loop-c-init : goal.loop-c-init
+loop-c-init c = (omega arith, omega arith, omega arith)
+
+pub overflow_add-found : goal.overflow_add-found
+overflow_add-found c = let l = c in omega (arith, l.loop-c.invariant.1, l.loop-c.invariant.0, l.requires)
+
+pub overflow_add-c : goal.overflow_add-c
+overflow_add-c c = let l = c in omega (arith, l.loop-c.invariant.0, l.requires)
+
+pub loop-c-smaller : goal.loop-c-smaller
+loop-c-smaller c = omega (arith, c.loop-c-test.true)
+
+pub loop-c-preserved : goal.loop-c-preserved
+loop-c-preserved c =
+    let t = c in
+    let l = t in
+    let i = l.loop-c.invariant in
+    let mask = l.args.mask in
+    let n = l.args.n in
+    let h = t.loop-c-test.true in
+    ⊎_elim
+    (λ u. (
+      omega (arith, h),
+      omega (arith, i.1, u.1),
+      omega (arith, i.2, u.1, ap length (free_more mask l.loop-c.c n h (no c.has8.ensures u.0.true))),
+    ))
+    (λ u. (
+      omega (arith, h),
+      omega (arith, i.1, u.1),
+      omega (arith, i.2, u.1, ap length (free-later mask l.loop-c.c n h (yes' c.has8.ensures u.0.left))),
+    ))
+    c.if-not-has8.branch
+
+pub returns : goal.returns
+returns c =
+    let l = c in
+    let s = l in
+    let z = ap length (none_left s.args.mask l.loop-c.c s.args.n (omega (arith, c.loop-c-test.false))) in
+    let all : length (free_from s.args.mask 0 s.args.n) ≡ l.loop-c.found = omega (arith, l.loop-c.invariant.2, z) in
+    sym (rw sub-zero at all)

@@ -1,0 +1,17 @@
+-- Those before c are counted.
+-- Assumes nothing.
+use mathlib.Core.Path.{◌≡◌, sym, ap}
+use mathlib.Core.Logic.{⊎_elim}
+use Prim.Native.Nat.{◌+◌, ◌-◌, ◌≤◌}
+use native.Mathlib.Nat.{sub-zero}
+use native.Mathlib.Omega.{arith}
+use lib.ListN.{length}
+use Rattle.book.proofs.Words.{no, yes'}
+use Rattle.enumerate.proofs.Free.{free_from, none_left, free_more, free-later}
+use Rattle.enumerate.proofs.count_free.Given as goal
+
+abbrev pub invariant-loop-c : goal.invariant-loop-c
+invariant-loop-c l = (l.c ≤ l.n) × (l.found ≤ l.c) × (length (free_from l.mask 0 l.n) ≡ l.found + length (free_from l.mask l.c l.n))
+
+abbrev pub decreases-loop-c : goal.decreases-loop-c
+decreases-loop-c l = l.n - l.c

@@ -1,0 +1,19 @@
+-- The product of the states before p is there.
+-- Assumes nothing.
+use mathlib.Core.Path.{◌≡◌, sym, ap, ◌∙◌}
+use Prim.Native.Nat.{ℕ, suc, ◌+◌, ◌*◌, ◌-◌, ◌≤◌, ◌<◌}
+use native.Mathlib.Nat.{mul_assoc, mul-one, one-mul, sub-zero}
+use native.Mathlib.Numerals.{add-one}
+use native.Mathlib.Omega.{arith}
+use Rattle.model.specs.Model.{state_count}
+use Rattle.model.specs.Recursion.{feasible}
+use Rattle.accepted.specs.Facts.{accepted}
+use Rattle.enumerate.specs.Ways.{ways_at, ways, policies-most}
+use Rattle.enumerate.proofs.few_at_sight.Given as goal
+
+abbrev pub invariant-loop-p : goal.invariant-loop-p
+invariant-loop-p l =
+    (l.p ≤ state_count l.b) × (l.product ≤ l.most) × (ways (feasible l.b) (state_count l.b) 0 ≡ l.product * ways (feasible l.b) (state_count l.b - l.p) l.p)
+
+abbrev pub decreases-loop-p : goal.decreases-loop-p
+decreases-loop-p l = state_count l.b - l.p

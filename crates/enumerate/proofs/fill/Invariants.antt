@@ -1,0 +1,31 @@
+-- The states before p have their bytes and their sets.
+-- Assumes nothing.
+use mathlib.Core.Path.{◌≡◌, refl, sym, ◌∙◌, subst}
+use mathlib.Core.Logic.{◌⊎◌}
+use mathlib.Core.List.{List}
+use Prim.Native.Nat.{ℕ, ◌-◌, ◌≤◌, ◌<◌}
+use native.Mathlib.Omega.{arith}
+use lib.ListN.{length, set, length-set}
+use Rattle.model.specs.Model.{Words, state_count}
+use Rattle.model.specs.Policy.{Policy}
+use Rattle.accepted.specs.Facts.{accepted}
+use Rattle.accepted.specs.Options.{Feasible}
+use Rattle.sets.specs.Sets.{has}
+use Rattle.enumerate.specs.Steps.{ReachedBefore, ReachTo, filled_from}
+use Rattle.enumerate.proofs.Filling.{lowest-action, lowest_small, reached-next, filled_next, sets_next, filled_all}
+use Rattle.enumerate.proofs.fill.Given as goal
+
+-- what is there when the states before p are done
+pub record Done (ws : Words) (from : ℕ) (bs : Policy) (reach₀ : List ℕ) (cs : Policy) (reach : List ℕ) (known p : ℕ) : Type 0 where
+  most : p ≤ state_count ws
+  long : length cs ≡ state_count ws
+  places : length reach ≡ 64
+  reached : ReachedBefore ws cs p known
+  bytes : filled_from ws bs from ≡ filled_from ws cs p
+  sets : ReachTo ws bs from reach₀ → ReachTo ws cs p reach
+
+abbrev pub invariant-loop-p : goal.invariant-loop-p
+invariant-loop-p l = Done l.b l.from l.initial.plan l.initial.reach l.plan l.reach l.known l.p
+
+abbrev pub decreases-loop-p : goal.decreases-loop-p
+decreases-loop-p l = state_count l.b - l.p

@@ -1,0 +1,16 @@
+-- The actions before c are in the set.
+-- Assumes nothing.
+use mathlib.Core.Path.{◌≡◌, sym}
+use mathlib.Core.Bool.{true}
+use Prim.Native.Nat.{ℕ, ◌-◌, ◌≤◌, ◌<◌}
+use native.Mathlib.Omega.{arith}
+use Rattle.book.proofs.Words.{no, yes'}
+use Rattle.sets.specs.Sets.{has}
+use Rattle.feasible.proofs.Sets.{one_left, none_free, one_more}
+use Rattle.feasible.proofs.none_left.Given as goal
+
+abbrev pub invariant-loop-c : goal.invariant-loop-c
+invariant-loop-c l = (l.c ≤ l.n) × ((d : ℕ) → d < l.c → has l.mask d ≡ true)
+
+abbrev pub decreases-loop-c : goal.decreases-loop-c
+decreases-loop-c l = l.n - l.c

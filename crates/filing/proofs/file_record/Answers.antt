@@ -1,0 +1,70 @@
+-- The refusal, or the record of the book that was read: the slice has room for every record, so what is asked of the input decides.
+-- Assumes nothing.
+use mathlib.Core.Path.{◌≡◌, refl, sym, ap₂, ◌∙◌}
+use mathlib.Core.List.{List}
+use Prim.Native.Nat.{ℕ, zero, suc, ◌≤◌}
+use native.Mathlib.Omega.{arith}
+use borrow.Author.Tests.{le-leb}
+use lib.ListN.{length, take}
+use Rattle.model.specs.Model.{Words}
+use Rattle.model.specs.Questions.{first_no, and_then}
+use Rattle.model.specs.Record.{asked_number, record_bytes}
+use Rattle.model.specs.Calls.{write_questions, write_number, write_length, write_record}
+use Rattle.model.specs.Page.{filed, refused_line, or_refused, most_record}
+use Rattle.questions.specs.FirstNo.{passes, none}
+use Rattle.questions.specs.Answers.{leaves, gives}
+use Rattle.asked.specs.Asked.{asked_says}
+use Rattle.record.specs.Lengths.{record_most}
+use Rattle.text.specs.Text.{Appended}
+use Rattle.page_lines.specs.Put.{Put, too_short, put_refused, put_due, put_same}
+use Rattle.filing.proofs.file_record.Goals as goal
+
+module _ (ws : Words) (k : ℕ) (out : List ℕ) (h : most_record ≤ length out) where
+  -- 18 is answered yes
+  number_is : write_number ws k (length out) ≡ asked_number ws k
+  unfolding write_number
+  number_is = go (asked_number ws k) refl
+    where
+      go : (n : ℕ) → asked_number ws k ≡ n → and_then n (first_no (write_questions ws k) (length out)) ≡ n
+      go zero e =
+          let a = asked_says ws k e in
+          passes (length out) _ _ (le-leb (length (record_bytes ws k)) (length out) (omega (arith, record_most ws k a.ok a.high, h))) ∙ none (length out)
+      go (suc n) e = refl
+
+  -- what writing has left, and the line of its refusal
+  refused : {no r : ℕ} {out₁ out' : List ℕ} → no ≡ write_number ws k (length out) → (no ≡ 0 → ⊥) → out₁ ≡ write_record ws k out
+      → Appended out₁ 0 (refused_line no) out' r → Put most_record (or_refused (asked_number ws k) (record_bytes ws k)) out out' r
+  unfolding write_record
+  refused {no} e i o a = put_refused (record_bytes ws k) h no (e ∙ number_is) i (rw (o, ← leaves e i _ out) at a)
+
+  written : {no n : ℕ} {out' : List ℕ} → no ≡ write_number ws k (length out) → no ≡ 0 → n ≡ write_length ws k (length out) → out' ≡ write_record ws k out
+      → Put most_record (or_refused (asked_number ws k) (record_bytes ws k)) out out' n
+  unfolding write_length write_record
+  written e z l o =
+      let ok = sym e ∙ z in
+      put_due (record_bytes ws k) h (sym number_is ∙ ok) (l ∙ sym (gives ok 0 refl)) (o ∙ sym (gives ok out refl))
+
+pub returns-then-out-lt-MOST_RECORD : goal.returns-then-out-lt-MOST_RECORD
+returns-then-out-lt-MOST_RECORD c = too_short most_record _ _ c.if-out-lt-MOST_RECORD.true
+
+-- the record of what was read is that of the input
+of_input : (c : goal.After-read-q) {out out' : List ℕ} {r : ℕ} →
+    let q = c.read-q.result in
+    Put most_record (or_refused (asked_number (take q.n q.words) q.k) (record_bytes (take q.n q.words) q.k)) out out' r
+    → Put most_record (filed c.args.input.now) out out' r
+unfolding filed
+of_input c = let h = c.read-q.ensures in put_same h.number (λ z. ap₂ record_bytes (h.words z) (h.count z))
+
+pub returns-then-w-ne0 : goal.returns-then-w-ne0
+returns-then-w-ne0 c =
+    let y = c in
+    let t = y in
+    let w = t in
+    let d = w in
+    of_input d (refused _ _ _ (omega arith) w.write-w.ensures.0 t.if-w-ne0.true w.write-w.ensures.2 y.put_refused.ensures)
+
+pub returns : goal.returns
+returns c =
+    let w = c in
+    let d = w in
+    of_input d (written _ _ _ (omega arith) w.write-w.ensures.0 c.if-w-ne0.false w.write-w.ensures.1 w.write-w.ensures.2)

@@ -1,0 +1,14 @@
+-- After d turns j is the first line of action d.
+-- Assumes nothing.
+use mathlib.Core.Path.{◌≡◌, sym, ap, ◌∙◌}
+use Prim.Native.Nat.{◌-◌, ◌≤◌}
+use native.Mathlib.Omega.{arith}
+use Rattle.model.specs.Model.{action_line}
+use Rattle.index.proofs.Lines.{line_start}
+use Rattle.index.proofs.action_line.Given as goal
+
+abbrev pub invariant-loop-d : goal.invariant-loop-d
+invariant-loop-d l = (l.d ≤ l.c) × (l.j ≡ action_line l.b l.p l.d)
+
+abbrev pub decreases-loop-d : goal.decreases-loop-d
+decreases-loop-d l = l.c - l.d

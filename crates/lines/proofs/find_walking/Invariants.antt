@@ -1,0 +1,16 @@
+-- The walk has come to action d; if it has passed action c, it has kept where that begins.
+-- Assumes nothing.
+use mathlib.Core.Path.{◌≡◌, ap, ◌∙◌}
+use mathlib.Core.Logic.{⊎_elim}
+use Prim.Native.Nat.{◌-◌, ◌≤◌, ◌<◌}
+use native.Mathlib.Omega.{arith}
+use Rattle.model.specs.Model.{action_count}
+use Rattle.lines.specs.Lines.{word_of}
+use Rattle.lines.proofs.Places.{state_after}
+use Rattle.lines.proofs.find_walking.Given as goal
+
+abbrev pub invariant-loop-d : goal.invariant-loop-d
+invariant-loop-d l = (l.d ≤ action_count l.b l.p) × (l.k ≡ word_of l.b l.p l.d) × (l.c < l.d → l.at ≡ word_of l.b l.p l.c)
+
+abbrev pub decreases-loop-d : goal.decreases-loop-d
+decreases-loop-d l = l.n - l.d

@@ -1,0 +1,16 @@
+-- The actions of the states before p are counted.
+-- Assumes nothing.
+use mathlib.Core.Path.{◌≡◌, sym, ap, ◌∙◌}
+use Prim.Native.Nat.{◌+◌, ◌-◌, ◌≤◌}
+use native.Mathlib.Omega.{arith}
+use Rattle.model.specs.Model.{state_count}
+use Rattle.model.specs.Limit.{first_mark}
+use Rattle.accepted.specs.Facts.{accepted}
+use Rattle.marks.proofs.Counts.{mark_none, mark_step, mark_few}
+use Rattle.marks.proofs.action_total.Given as goal
+
+abbrev pub invariant-loop-p : goal.invariant-loop-p
+invariant-loop-p l = (state_count l.b ≤ 64) × (l.s ≡ state_count l.b) × (l.p ≤ l.s) × (l.n ≡ first_mark l.b l.p)
+
+abbrev pub decreases-loop-p : goal.decreases-loop-p
+decreases-loop-p l = l.s - l.p

@@ -1,0 +1,21 @@
+-- The most of the next states before transition i is had; that of those from i on is still to come.
+-- Assumes nothing.
+use mathlib.Core.Path.{◌≡◌, refl, ap}
+use mathlib.Core.Logic.{⊎_elim}
+use mathlib.Core.List.{List}
+use Prim.Native.Nat.{ℕ, ◌+◌, ◌-◌, ◌≤◌, max}
+use native.Mathlib.Omega.{arith}
+use lib.ListN.{drop}
+use Rattle.model.specs.Model.{Transition, action}
+use Rattle.lines.specs.Lines.{transition}
+use Rattle.lines.proofs.Steps.{one_done, all_done}
+use Rattle.path_sums.specs.Most.{most_next}
+use Rattle.marks.specs.Marks.{number_at}
+use Rattle.marks.proofs.most_next.Given as goal
+
+abbrev pub invariant-loop-i : goal.invariant-loop-i
+invariant-loop-i l =
+    (l.i ≤ l.r) × (most_next (number_at l.v) (action l.b l.p l.c).transitions ≡ max l.most (most_next (number_at l.v) (drop l.i (action l.b l.p l.c).transitions)))
+
+abbrev pub decreases-loop-i : goal.decreases-loop-i
+decreases-loop-i l = l.r - l.i

@@ -1,0 +1,15 @@
+-- The states before p have their entries.
+-- Assumes nothing.
+use Prim.Native.Nat.{◌-◌, ◌≤◌}
+use native.Mathlib.Omega.{arith}
+use Rattle.model.specs.Model.{state_count}
+use Rattle.accepted.specs.Facts.{accepted}
+use Rattle.nexts.specs.Nexts.{NextsTo}
+use Rattle.nexts.proofs.Rows.{none_filled, state_more, all_filled}
+use Rattle.nexts.proofs.fill_sets.Given as goal
+
+abbrev pub invariant-loop-p : goal.invariant-loop-p
+invariant-loop-p l = (l.p ≤ state_count l.b) × NextsTo l.b l.p 0 l.t
+
+abbrev pub decreases-loop-p : goal.decreases-loop-p
+decreases-loop-p l = l.s - l.p

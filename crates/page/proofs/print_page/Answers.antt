@@ -1,0 +1,18 @@
+-- What is asked of the words that were read is asked of the input.
+-- Assumes nothing.
+use mathlib.Core.Path.{sym, ap₂, ◌∙◌}
+use Rattle.model.specs.Page.{list_page, page}
+use Rattle.asked.specs.Asked.{asked_says}
+use Rattle.page_lines.specs.Put.{put_same}
+use Rattle.page.proofs.print_page.Goals as goal
+
+pub put_page-requires : goal.put_page-requires
+put_page-requires c κs z = asked_says _ _ (sym c.asked_number-no.ensures ∙ z)
+
+pub returns : goal.returns
+unfolding page
+returns c =
+    let y = c in
+    let a = y in
+    let h = a.read-q.ensures in
+    put_same (a.asked_number-no.ensures ∙ h.number) (λ z. ap₂ list_page (h.words z) (h.count z)) y.put_page.ensures

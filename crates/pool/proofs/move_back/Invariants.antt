@@ -1,0 +1,13 @@
+-- The first t places hold the slots after the first.
+-- Assumes nothing.
+use mathlib.Core.Path.{◌≡◌, refl}
+use Prim.Native.Nat.{◌≤◌, ◌-◌}
+use native.Mathlib.Omega.{arith}
+use Rattle.pool.proofs.Moves.{moved_to, to_more, to_end}
+use Rattle.pool.proofs.move_back.Given as goal
+
+abbrev pub invariant-loop-t : goal.invariant-loop-t
+invariant-loop-t l = (l.t ≤ l.last) × (l.order ≡ moved_to l.initial.order l.t)
+
+abbrev pub decreases-loop-t : goal.decreases-loop-t
+decreases-loop-t l = l.last - l.t

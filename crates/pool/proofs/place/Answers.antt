@@ -1,0 +1,85 @@
+-- Assumes nothing.
+use mathlib.Core.Path.{◌≡◌, sym, ap, ◌∙◌}
+use mathlib.Core.Bool.{Bool}
+use mathlib.Core.List.{List}
+use Prim.Native.Nat.{ℕ, ◌≤◌, ◌<◌, ◌+◌, ◌-◌}
+use native.Mathlib.Omega.{arith}
+use mir.Syntax.{w64}
+use mir.Val.{to_z, of_z}
+use lib.ListN.{length, get_or, take, drop}
+use lib.Seq.{length-take-le, get_or-take}
+use Rattle.costs.proofs.Sums.{read64}
+use Rattle.pool.specs.Entries.{earlier_than, first_yes}
+use Rattle.pool.proofs.Moves.{slot_low}
+use Rattle.pool.proofs.Insertion.{yes_none, yes_skip, yes_here, yes_later}
+use Rattle.pool.proofs.Ascent.{cheaper_no}
+use Rattle.pool.proofs.place.Goals as goal
+use Rattle.pool.proofs.place.Goals.{Start}
+
+pub cheaper-i-requires : goal.cheaper-i-requires
+cheaper-i-requires c =
+    let h = c.requires in
+    (h.1, h.2, h.5)
+
+pub earlier-requires : goal.earlier-requires
+earlier-requires c =
+    let l = c in
+    let s = l in
+    (s.requires.0, omega (arith, c.slot_at-slot.ensures, slot_low s.requires.1 l.loop-i.i (omega arith)), s.requires.3, s.requires.4)
+
+-- the slots that are searched
+module _ (s : goal.Start) where
+  abbrev xs : List ℕ
+  xs = take s.args.n s.args.order.now
+
+  cost_is : to_z w64 (of_z w64 s.args.cost) ≡ s.args.cost
+  cost_is = read64 s.args.cost s.fits.cost.sfits
+
+  abbrev test : ℕ → Bool
+  test = earlier_than (to_z w64 (of_z w64 s.args.cost)) (take s.args.s s.args.bytes.now) s.args.s s.args.costs.now s.args.plans.now
+
+  long : length xs ≡ s.args.n
+  long = length-take-le s.args.n s.args.order.now (omega (arith, s.requires.1.long))
+
+  inside : (i : ℕ) → i < s.args.n → i < length xs
+  inside i h = omega (arith, long)
+
+  at : (i : ℕ) → i < s.args.n → get_or xs i 0 ≡ get_or s.args.order.now i 0
+  at i h = get_or-take s.args.n s.args.order.now i 0 h
+
+pub loop-i-init : goal.loop-i-init
+loop-i-init c =
+    let s = (goal.at.loop-i-init c).Start in
+    let i = c.cheaper-i.result in
+    let e = rw (cost_is s) at c.cheaper-i.ensures in (
+      e.0,
+      rw (cost_is s)
+          (yes_skip (earlier_than s.args.cost (take s.args.s s.args.bytes.now) s.args.s s.args.costs.now s.args.plans.now) (xs s) i
+          (omega (arith, long s, e.0))
+          (cheaper_no s.args.costs.now s.args.plans.now (take s.args.s s.args.bytes.now) s.args.s s.args.cost (take i (xs s)) e.1)),
+    )
+
+pub returns-then-earlier : goal.returns-then-earlier
+returns-then-earlier c =
+    let l = c in
+    let s = (goal.at.returns-then-earlier l).Start in
+    rw (← cost_is s)
+    (yes_here (test s) (xs s) l.loop-i.i (inside s l.loop-i.i (omega arith))
+    (ap (test s) (at s l.loop-i.i (omega arith) ∙ sym c.slot_at-slot.ensures) ∙ sym c.earlier.ensures ∙ c.if-earlier.true)
+    ∙ sym l.loop-i.invariant.1)
+
+pub loop-i-preserved : goal.loop-i-preserved
+loop-i-preserved c =
+    let l = c in
+    let s = (goal.at.loop-i-preserved l).Start in (
+      omega arith,
+      l.loop-i.invariant.1
+          ∙ yes_later (test s) (xs s) l.loop-i.i (inside s l.loop-i.i (omega arith))
+          (ap (test s) (at s l.loop-i.i (omega arith) ∙ sym c.slot_at-slot.ensures) ∙ sym c.earlier.ensures ∙ c.if-earlier.false),
+    )
+
+pub returns : goal.returns
+returns c =
+    let l = c in
+    let s = (goal.at.returns l).Start in
+    rw (← cost_is s) (sym (l.loop-i.invariant.1 ∙ yes_none (test s) (xs s) l.loop-i.i (omega (arith, long s))))

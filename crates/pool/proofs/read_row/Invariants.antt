@@ -1,0 +1,17 @@
+-- The first i bytes are copied.
+-- Assumes nothing.
+use mathlib.Core.Path.{◌≡◌, refl, ◌∙◌}
+use mathlib.Core.List.{◌++◌}
+use Prim.Native.Nat.{◌≤◌, ◌-◌}
+use native.Mathlib.Omega.{arith}
+use lib.ListN.{length, length-set, take, drop}
+use Rattle.pool.specs.Entries.{row}
+use Rattle.pool.proofs.Lists.{front-more, copied_all}
+use Rattle.pool.proofs.Rows.{row_long, row_at}
+use Rattle.pool.proofs.read_row.Given as goal
+
+abbrev pub invariant-loop-i : goal.invariant-loop-i
+invariant-loop-i l = (l.i ≤ l.s) × (length l.out ≡ length l.initial.out) × (l.out ≡ take l.i (row l.s l.plans l.j) ++ drop l.i l.initial.out)
+
+abbrev pub decreases-loop-i : goal.decreases-loop-i
+decreases-loop-i l = l.s - l.i

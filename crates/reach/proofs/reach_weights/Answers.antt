@@ -1,0 +1,61 @@
+-- Assumes nothing.
+use Prim.Native.Nat.{◌+◌, ◌-◌, ◌≤◌}
+use mathlib.Core.Path.{◌≡◌, sym, subst}
+use mathlib.Core.Logic.{⊎_elim}
+use native.Mathlib.Omega.{arith}
+use lib.ListN.{length}
+use Rattle.model.specs.Model.{state_count}
+use Rattle.accepted.specs.Facts.{accepted}
+use Rattle.accepted.specs.Bytes.{policy_long}
+use Rattle.reach.proofs.Pass.{Passed, begin, byte-action, room, pass_action, pass_none, finish}
+use Rattle.reach.proofs.reach_weights.Goals as goal
+
+pub loop-p-init : goal.loop-p-init
+loop-p-init c =
+    let s = c in
+    let ws = s.args.b.now in
+    let bs = s.args.plan.now in (
+      (accepted ws s.requires.0.checked.ok).sizes.s_high,
+      omega arith,
+      policy_long ws s.requires.0.checked.ok bs s.requires.1,
+      begin ws bs (_) c.first_weights.ensures,
+    )
+
+pub overflow_cast-c : goal.overflow_cast-c
+overflow_cast-c c = omega (arith, c.shared_slice_known-in-loop-p-1.given c.loop-p.p)
+
+pub spread_action-requires : goal.spread_action-requires
+spread_action-requires c =
+    let i = c.loop-p in
+    let s = c in
+    let ws = s.args.b.now in
+    let bs = s.args.plan.now in (
+      s.requires.0,
+      omega arith,
+      byte-action ws s.requires.0.checked.ok bs s.requires.1 i.p (omega arith) c.if-c-ne255.true,
+      i.invariant.3.long,
+      room ws s.requires.0.checked.ok bs s.requires.1 i.p (omega arith) i.w i.invariant.3,
+    )
+
+pub loop-p-preserved : goal.loop-p-preserved
+loop-p-preserved c =
+    let i = c.loop-p in
+    let s = c in
+    let ws = s.args.b.now in
+    let bs = s.args.plan.now in (
+      i.invariant.0,
+      omega arith,
+      i.invariant.2,
+      ⊎_elim
+          (λ k. subst (Passed ws bs (i.p + 1)) (sym k.4)
+          (pass_action ws s.requires.0.checked.ok bs s.requires.1 i.p (omega arith) i.w i.invariant.3 _ k.3.ensures))
+          (λ k. subst (Passed ws bs (i.p + 1)) (sym k.1)
+          (pass_none ws s.requires.0.checked.ok bs s.requires.1 i.p (omega arith) i.w i.invariant.3 k.0.left))
+          c.if-c-ne255.branch,
+    )
+
+pub returns : goal.returns
+returns c =
+    let i = c.loop-p in
+    let s = c in
+    finish s.args.b.now s.requires.0.checked.ok s.args.plan.now i.p (omega arith) i.w i.invariant.3

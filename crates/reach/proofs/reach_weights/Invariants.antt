@@ -1,0 +1,18 @@
+-- The array has the weights before the pass comes to state p.
+-- Assumes nothing.
+use Prim.Native.Nat.{◌+◌, ◌-◌, ◌≤◌}
+use mathlib.Core.Path.{◌≡◌, sym, subst}
+use mathlib.Core.Logic.{⊎_elim}
+use native.Mathlib.Omega.{arith}
+use lib.ListN.{length}
+use Rattle.model.specs.Model.{state_count}
+use Rattle.accepted.specs.Facts.{accepted}
+use Rattle.accepted.specs.Bytes.{policy_long}
+use Rattle.reach.proofs.Pass.{Passed, begin, byte-action, room, pass_action, pass_none, finish}
+use Rattle.reach.proofs.reach_weights.Given as goal
+
+abbrev pub invariant-loop-p : goal.invariant-loop-p
+invariant-loop-p l = (state_count l.b ≤ 64) × (l.p ≤ state_count l.b) × (length l.plan ≡ state_count l.b) × Passed l.b l.plan l.p l.w
+
+abbrev pub decreases-loop-p : goal.decreases-loop-p
+decreases-loop-p l = l.s - l.p

@@ -1,0 +1,20 @@
+-- y is spread over the first i transitions.
+-- Assumes nothing.
+use mathlib.Core.Path.{◌≡◌, refl}
+use mathlib.Core.List.{◌∷◌}
+use Prim.Native.Nat.{ℕ, ◌+◌, ◌*◌, ◌-◌, ◌≤◌}
+use native.Mathlib.Omega.{arith}
+use lib.ListN.{drop, get_or}
+use Rattle.model.specs.Model.{action}
+use Rattle.splits.specs.Reach.{spread}
+use Rattle.lines.proofs.Steps.{one_done, all_done}
+use Rattle.reach.specs.Weights.{weight_at}
+use Rattle.reach.proofs.Spreading.{ToSpread, sum_small, one_spread, all-spread}
+use Rattle.reach.proofs.spread_lines.Given as goal
+
+abbrev pub invariant-loop-i : goal.invariant-loop-i
+invariant-loop-i l =
+    (l.i ≤ l.r) × ToSpread l.y (spread l.y (action l.b l.p l.c).transitions (weight_at l.initial.w)) (drop l.i (action l.b l.p l.c).transitions) l.w
+
+abbrev pub decreases-loop-i : goal.decreases-loop-i
+decreases-loop-i l = l.r - l.i

@@ -1,0 +1,34 @@
+-- 25, then 26.
+-- Assumes nothing.
+use mathlib.Core.Path.{sym, ◌∙◌}
+use Prim.Native.Nat.{◌-◌}
+use Rattle.questions.specs.FirstNo.{fails, passes, none}
+use Rattle.book.proofs.Words.{no, yes'}
+use Rattle.reward_table.specs.Read.{Given}
+use Rattle.reward_table.specs.Says.{given_says}
+use Rattle.reward_table.proofs.table_number.Goals as goal
+use Rattle.reward_table.proofs.table_number.Goals.{Else-not-sizes_given}
+
+given : (c : goal.Else-not-sizes_given) → Given c.args.t.now
+given c = given_says _ (yes' c.sizes_given.ensures c.if-not-sizes_given.false-raw)
+
+pub returns-then-not-sizes_given : goal.returns-then-not-sizes_given
+returns-then-not-sizes_given c = sym (fails _ _ _ (no c.sizes_given.ensures c.if-not-sizes_given.true-raw))
+
+pub read_table-z-requires : goal.read_table-z-requires
+read_table-z-requires c = given c
+
+pub lines_given-requires : goal.lines_given-requires
+lines_given-requires c = (given (goal.at.lines_given-requires c).Else-not-sizes_given, c.read_table-z.ensures)
+
+pub returns-then-not-lines_given : goal.returns-then-not-lines_given
+returns-then-not-lines_given c =
+    let e = c in
+    sym (passes _ _ _ (yes' e.sizes_given.ensures e.if-not-sizes_given.false-raw) ∙ fails _ _ _ (no c.lines_given.ensures c.if-not-lines_given.true-raw))
+
+pub returns : goal.returns
+returns c =
+    let e = c in
+    sym
+    (passes _ _ _ (yes' e.sizes_given.ensures e.if-not-sizes_given.false-raw) ∙ passes _ _ _ (yes' c.lines_given.ensures c.if-not-lines_given.false-raw)
+    ∙ none _)

@@ -1,0 +1,23 @@
+-- The entries of the feasible ones of the first c actions are filled, and j is the first line of action c.
+-- Assumes nothing.
+use mathlib.Core.Path.{◌≡◌, sym, subst}
+use mathlib.Core.Logic.{⊎_elim}
+use Prim.Native.Nat.{◌+◌, ◌-◌, ◌≤◌, ◌<◌}
+use native.Mathlib.Omega.{arith}
+use Rattle.model.specs.Model.{Words, action_count, action_line}
+use Rattle.accepted.specs.Options.{Feasible, to_option}
+use Rattle.book.proofs.Words.{no, yes'}
+use Rattle.index.specs.Index.{ActionAt}
+use Rattle.index.proofs.Lines.{entered}
+use Rattle.costs.proofs.Sums.{read64}
+use Rattle.table.specs.Table.{FilledTo}
+use Rattle.feasible.proofs.Leaves.{off_none, on_feasible}
+use Rattle.table.proofs.Rows.{filled_none, filled_more, filled_skip}
+use Rattle.table.proofs.fill_row.Given as goal
+
+abbrev pub invariant-loop-c : goal.invariant-loop-c
+invariant-loop-c l =
+    (l.c ≤ l.n) × (l.p < 64) × (l.n ≤ 8) × FilledTo l.b l.p l.c l.v l.initial.q l.q × (l.j ≡ action_line l.b l.p l.c)
+
+abbrev pub decreases-loop-c : goal.decreases-loop-c
+decreases-loop-c l = l.n - l.c

@@ -1,0 +1,16 @@
+-- The words still to be copied, written over what stands there now, give the result.
+-- Assumes nothing.
+use mathlib.Core.Path.{◌≡◌, refl}
+use Prim.Native.Nat.{◌+◌, ◌-◌}
+use native.Mathlib.Omega.{arith}
+use lib.IntN.{pos}
+use lib.ListN.{take, drop, get_or}
+use Rattle.book.proofs.Words.{read32}
+use Rattle.bytes_io.proofs.Parts.{Filling, fill_start, fill_one, fill_end, part_step}
+use Rattle.table_book.proofs.copy.Given as goal
+
+abbrev pub invariant-loop-i : goal.invariant-loop-i
+invariant-loop-i l = Filling l.initial.out l.at l.count (take l.count (drop l.from l.t)) l.out l.i (take (l.count - l.i) (drop (l.from + l.i) l.t))
+
+abbrev pub decreases-loop-i : goal.decreases-loop-i
+decreases-loop-i l = l.count - l.i
