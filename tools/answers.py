@@ -91,7 +91,7 @@ def convert(path, crate, fn, x, warn, tiemode=False):
         mm = re.match(r"module _ \((\S+) : (tie\.[^)]*)\) where", b)
         if mm:
             p = place_of(mm.group(2))
-            for nm in re.finditer(r"^  (?:abbrev |unfoldable )?(" + TOK + r") :", b, re.M):
+            for nm in re.finditer(r"^ {2,6}(?:abbrev |unfoldable )?(" + TOK + r") :", b, re.M):
                 helpers[nm.group(1)] = p
             for nm in re.finditer(r"^  (?:abbrev |unfoldable )?(" + TOK + r") : (tie\.\S+)", b, re.M):
                 placef[nm.group(1)] = p

@@ -48,12 +48,12 @@ loop-i-init c =
 pub returns-then-a-at : goal.returns-then-a-at
 returns-then-a-at c =
     let l = c in
-    (omega (arith, l.loop-i.invariant.1, differ l l.loop-i.i (omega arith) c.if-a-at.true), omega arith)
+    (omega (arith, l.loop-i.invariant.1, differ (goal.at.returns-then-a-at l).Start l.loop-i.i (omega arith) c.if-a-at.true), omega arith)
 
 pub loop-i-preserved : goal.loop-i-preserved
 loop-i-preserved c =
     let l = c in
-    (omega arith, omega (arith, l.loop-i.invariant.1, equal l l.loop-i.i (omega arith) c.if-a-at.false))
+    (omega arith, omega (arith, l.loop-i.invariant.1, equal (goal.at.loop-i-preserved l).Start l.loop-i.i (omega arith) c.if-a-at.false))
 
 pub returns : goal.returns
 returns c =

@@ -255,16 +255,16 @@ module _ (v : tie.After-move_back goal.the-invariant-loop-j goal.the-decreases-l
   at = j i.before.before.before.before.before.before.before.before.before.before.before.before.before.before.before * n st.before.before.before.before.before.before.before.before.before.before.before.before.before.before.before.before.before.before.before.before.before.before.before
 
   abbrev plans : List ℕ
-  plans = put o r.read_row.ensures
+  plans = put o.before.before.before.before.before.before.before r.read_row.ensures
 
   first-is : entry_of parent (bytes_at at (n st.before.before.before.before.before.before.before.before.before.before.before.before.before.before.before.before.before.before.before.before.before.before.before) plans) ≡ first i.before.before.before.before.before.before.before.before.before.before.before.before.before.before.before
-  first-is = parent_is (S st.before.before.before.before.before.before.before.before.before.before.before.before.before.before.before.before.before.before.before.before.before.before.before) (P i.before.before.before.before.before.before.before.before.before.before.before.before.before.before.before) (f o.before.before.before.before.before.before.before).first_of-e.ensures (rows_read o r.read_row.ensures)
+  first-is = parent_is (S st.before.before.before.before.before.before.before.before.before.before.before.before.before.before.before.before.before.before.before.before.before.before.before) (P i.before.before.before.before.before.before.before.before.before.before.before.before.before.before.before) (f o.before.before.before.before.before.before.before).first_of-e.ensures (rows_read o.before.before.before.before.before.before.before r.read_row.ensures)
 
   en_right : Right (ws st.before.before.before.before.before.before.before.before.before.before.before.before.before.before.before.before.before.before.before.before.before.before.before) (entry_of parent (bytes_at at (n st.before.before.before.before.before.before.before.before.before.before.before.before.before.before.before.before.before.before.before.before.before.before.before) plans))
   en_right = subst (Right (ws st.before.before.before.before.before.before.before.before.before.before.before.before.before.before.before.before.before.before.before.before.before.before.before)) (sym first-is) (right i.before.before.before.before.before.before.before.before.before.before.before.before.before.before.before)
 
   room : at + n st.before.before.before.before.before.before.before.before.before.before.before.before.before.before.before.before.before.before.before.before.before.before.before ≤ length plans
-  room = omega (arith, plans_room i.before.before.before.before.before.before.before.before.before.before.before.before.before.before.before, rows_long o r.read_row.ensures)
+  room = omega (arith, plans_room i.before.before.before.before.before.before.before.before.before.before.before.before.before.before.before, rows_long o.before.before.before.before.before.before.before r.read_row.ensures)
 
   cost_is : set (a i.before.before.before.before.before.before.before.before.before.before.before.before.before.before.before).loop-j.costs (j i.before.before.before.before.before.before.before.before.before.before.before.before.before.before.before) (to_z w64 (of_z w64 parent.cost)) ≡ set (a i.before.before.before.before.before.before.before.before.before.before.before.before.before.before.before).loop-j.costs (j i.before.before.before.before.before.before.before.before.before.before.before.before.before.before.before) (first i.before.before.before.before.before.before.before.before.before.before.before.before.before.before.before).cost
   cost_is =

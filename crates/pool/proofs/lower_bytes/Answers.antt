@@ -13,6 +13,7 @@ use Rattle.laws.specs.Difference.{first-swap, lower-first, lower-end}
 use Rattle.pool.specs.Entries.{row}
 use Rattle.pool.proofs.Rows.{row_long, row_at}
 use Rattle.pool.proofs.lower_bytes.Goals as goal
+use Rattle.pool.proofs.lower_bytes.Goals.{Start}
 
 -- the plan, and the row that it is compared with
 module _ (s : goal.Start) where
@@ -46,9 +47,9 @@ module _ (s : goal.Start) where
 pub returns-then-i-s : goal.returns-then-i-s
 returns-then-i-s c =
     let d = c in
-    at-end d d.first_difference_lem.result d.first_difference_lem.ensures.0 c.if-i-s.true
+    at-end (goal.at.returns-then-i-s d).Start d.first_difference_lem.result d.first_difference_lem.ensures.0 c.if-i-s.true
 
 pub returns : goal.returns
 returns c =
     let d = c in
-    decides d d.first_difference_lem.result d.first_difference_lem.ensures.0 (omega arith)
+    decides (goal.at.returns d).Start d.first_difference_lem.result d.first_difference_lem.ensures.0 (omega arith)
