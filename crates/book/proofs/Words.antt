@@ -16,7 +16,7 @@ use Rattle.model.specs.Questions.{inside}
 
 -- what a word reads back as
 pub read32 : (z : ℤ) → mag z < 2 ^ 31 → to_z w32 (of_z w32 z) ≡ z
-read32 z h = to_z-of_z (record { sfits = h })
+read32 z h = to_z-of_z {w = w32} (record { sfits = h })
 
 -- what 32 bits hold, 64 bits hold
 pub wider : {z : ℤ} → mag z < 2 ^ 31 → SFits w64 z

@@ -26,7 +26,7 @@ pub fn no_plans() -> [u8; 4096]
 // book has none, which is question 28.
 pub fn fill(b: &[i32], k: usize, costs: &mut [i64], plans: &mut [u8]) -> usize
     requires { Counted b.now k × (length costs.old ≡ 64) × (length plans.old ≡ 4096) }
-    ensures* { λ n. ⌜ Listed b.now k (record { n = n; s = state_count b.now; costs = costs.new; plans = plans.new }) ⌝ }
+    ensures { Listed b.now k (record { n = result; s = state_count b.now; costs = costs.new; plans = plans.new }) }
 {
     engine::list(b, k, costs, plans)
 }
@@ -41,7 +41,7 @@ pub fn fill_by(
     plans: &mut [u8],
 ) -> usize
     requires { Counted b.now k × Indexed b.now z x.now × (length costs.old ≡ 64) × (length plans.old ≡ 4096) }
-    ensures* { λ n. ⌜ Listed b.now k (record { n = n; s = state_count b.now; costs = costs.new; plans = plans.new }) ⌝ }
+    ensures { Listed b.now k (record { n = result; s = state_count b.now; costs = costs.new; plans = plans.new }) }
 {
     engine::list_by(b, z, x, k, costs, plans)
 }

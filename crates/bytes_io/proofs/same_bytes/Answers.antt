@@ -17,4 +17,4 @@ returns c =
     let other : List ℕ = take s.n s.src.now in
     let long : length one ≡ s.n = length-take-le s.n (drop s.at s.r.now) (simp length-drop (omega arith)) in
     let also : length other ≡ s.n = length-take-le s.n s.src.now (omega arith) in
-    sym (same_first one other (long ∙ sym also) ∙ ap₂ eqb (sym c.first_difference_lem.ensures.0) long)
+    sym (same_first one other (long ∙ sym also) ∙ ap₂ eqb (sym c.first_difference.ensures.0) long)

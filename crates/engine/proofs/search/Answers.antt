@@ -423,7 +423,7 @@ module _ (m : tie.After-may_enter goal.the-invariant-loop-j goal.the-decreases-l
   y = m
 
   abbrev d : Child
-  d = child.child_at_lem.result
+  d = child.child_at.result
 
   abbrev st' : tie.Start goal.the-invariant-loop-j goal.the-decreases-loop-j
   st' = ss y.before.before.before.before.before.before.before.before.before
@@ -439,7 +439,7 @@ module _ (m : tie.After-may_enter goal.the-invariant-loop-j goal.the-decreases-l
 
   next : {q : Pool} → Holding (S st'.before.before.before.before.before.before.before.before.before.before.before.before.before.before.before.before) (joined_if (Q y.before.before.before.before.before.before.before.before.before).most (ws st'.before.before.before.before.before.before.before.before.before.before.before.before.before.before.before.before) (bytes y.before.before.before.before.before.before.before.before.before) (p y.before.before.before.before.before.before.before.before.before) d (entries (S st'.before.before.before.before.before.before.before.before.before.before.before.before.before.before.before.before) (Q y.before.before.before.before.before.before.before.before.before))) (Q y.before.before.before.before.before.before.before.before.before) q → Next q
   next o =
-      turns_child (ws st'.before.before.before.before.before.before.before.before.before.before.before.before.before.before.before.before) (known st'.before.before.before.before.before.before.before.before.before.before.before.before.before.before.before.before).ok (k st'.before.before.before.before.before.before.before.before.before.before.before.before.before.before.before.before) st'.args.costs.now st'.args.plans.now (n st'.before.before.before.before.before.before.before.before.before.before.before.before.before.before.before.before) (all st'.before.before.before.before.before.before.before.before.before.before.before.before.before.before.before.before) (turn (h y.before.before.before.before.before.before.before.before.before)) (here y.before.before.before.before.before.before.before.before.before) d child.child_at_lem.ensures o
+      turns_child (ws st'.before.before.before.before.before.before.before.before.before.before.before.before.before.before.before.before) (known st'.before.before.before.before.before.before.before.before.before.before.before.before.before.before.before.before).ok (k st'.before.before.before.before.before.before.before.before.before.before.before.before.before.before.before.before) st'.args.costs.now st'.args.plans.now (n st'.before.before.before.before.before.before.before.before.before.before.before.before.before.before.before.before) (all st'.before.before.before.before.before.before.before.before.before.before.before.before.before.before.before.before) (turn (h y.before.before.before.before.before.before.before.before.before)) (here y.before.before.before.before.before.before.before.before.before) d child.child_at.ensures o
       passed.pass_state-reach.ensures
 
 -- a child that may be kept
@@ -451,7 +451,7 @@ module _ (b : tie.Then4 goal.the-invariant-loop-j goal.the-decreases-loop-j) whe
   some_action = some_child (ws (st' m.before)) (bytes (y m.before)) (p (y m.before)) (d m.before) (Q (y m.before)) (may m.before ∙ b.if-may_enter.true)
 
   goes_on : Feasible (ws (st' m.before)) (p (y m.before)) (d m.before).action
-  goes_on = ⊎_elim (λ e. absurd (some_action e)) (λ o. o) (child m.before).child_at_lem.ensures.goes_on
+  goes_on = ⊎_elim (λ e. absurd (some_action e)) (λ o. o) (child m.before).child_at.ensures.goes_on
 
 pub zeros-row-requires : goal.zeros-row-requires
 zeros-row-requires c = tt

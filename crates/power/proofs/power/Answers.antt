@@ -19,6 +19,6 @@ pub returns-else-d-ge1 : goal.returns-else-d-ge1
 unfolding power_of
 returns-else-d-ge1 c =
     let s = c.args in
-    ⊎_elim (λ w. rw (lt-leb s.e 8 (omega (arith, leb-false)), and-false))
-    (⊎_elim (λ w. rw (lt-leb s.d 100 (omega (arith, leb-false)), and-false)) (λ w. rw (lt-leb 1 s.d (omega arith))))
-    c.else-d-ge1.branch
+    ⊎_elim (λ w. rw (lt-leb s.e 8 w.2, and-false))
+    (⊎_elim (λ w. rw (lt-leb s.d 100 w.1, and-false)) (λ w. rw (lt-leb 1 s.d w)))
+    c.else-d-ge1.either

@@ -96,7 +96,7 @@ module _ (n : tie.After-is_small) where
 pub returns-then-not-small : goal.returns-then-not-small
 returns-then-not-small c =
     let n = c.before.before in
-    later (g n) (small_many (ws (g n)) (room (g n)) (counted (g n)) (some (e2 n)) (no n.is_small_lem.ensures c.if-not-small.true-raw)) (λ z. omega arith)
+    later (g n) (small_many (ws (g n)) (room (g n)) (counted (g n)) (some (e2 n)) (no n.is_small.ensures c.if-not-small.true-raw)) (λ z. omega arith)
 
 -- there are not too many
 module _ (e : tie.Else3) where
@@ -107,7 +107,7 @@ module _ (e : tie.Else3) where
   i = g n.before
 
   is_small_lem : is_small (ws i.before.before.before.before.before.before.before.before.before.before.before.before) ≡ true
-  is_small_lem = yes' n.is_small_lem.ensures e.if-not-small.false-raw
+  is_small_lem = yes' n.is_small.ensures e.if-not-small.false-raw
 
   states : (e2 n.before).sizes-z.result.s ≡ state_count (ws i.before.before.before.before.before.before.before.before.before.before.before.before)
   states = (e2 n.before).sizes-z.ensures.sizes.s_is
