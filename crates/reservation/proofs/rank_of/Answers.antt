@@ -8,5 +8,5 @@ use Rattle.reservation.proofs.rank_of.Goals as goal
 
 pub returns-else-rider-lt-RIDERS : goal.returns-else-rider-lt-RIDERS
 returns-else-rider-lt-RIDERS c =
-    let ranks = c.args.t1 in
+    let ranks = c.args.ranks in
     let long : length ranks ≡ 16 = search rules in sym (get_or-eq_default ranks 0 (omega (arith, long)))

@@ -11,7 +11,7 @@ use Rattle.reservation.proofs.Desk.holding.Goals as goal
 pub returns-else-rider-lt-RIDERS : goal.returns-else-rider-lt-RIDERS
 returns-else-rider-lt-RIDERS c =
     let s = c.args in
-    let d = s.t1 in
+    let d = s.self in
     let long : length d.held ≡ 16 = search rules in
     ap (λ (xs : List ℕ). record { k = d.k; held = xs; committed = d.committed })
     (sym (set_out d.held s.rider s.rank (omega (arith, long))))

@@ -15,7 +15,7 @@ returns-then-rider-lt-RIDERS c = rw c.holding-next.ensures
 pub returns-else-rider-lt-RIDERS : goal.returns-else-rider-lt-RIDERS
 returns-else-rider-lt-RIDERS c =
     let s = c.args in
-    let d = s.t1 in
+    let d = s.self in
     let long : length d.committed ≡ 16 = search rules in
     c.holding-next.ensures
     ∙ ap (λ (xs : List ℕ). record { k = d.k; held = set d.held s.rider 0; committed = xs })
