@@ -6,4 +6,4 @@ use Rattle.book.proofs.Words.{read32}
 use Rattle.bytes_io.proofs.read_word.Goals as goal
 
 pub returns : goal.returns
-returns c = rw (read32 c.to_signed.result c.to_signed.type-inv) (c.to_signed.ensures ∙ ap signed c.read4.ensures.0)
+returns c = rw (read32 c.to_signed.result c.to_signed.type_inv) (c.to_signed.ensures ∙ ap signed c.read4.ensures.0)

@@ -24,7 +24,7 @@ loop-i-preserved c =
     let q = s.at + 4 * (l.i + 1) in
     let ys = words_of (s.n - (l.i + 1)) (drop q r) in
     let y = c.read_word-x in
-    rw (read32 y.result y.type-inv)
+    rw (read32 y.result y.type_inv)
     (fill_one _ _ _ _ (omega arith) l.invariant y.result ys (omega arith) (omega arith)
     (words_step r l.i s.n p q (omega arith) (omega arith) ∙ ap (λ z. z ∷ ys) (sym y.ensures)))
 

@@ -18,7 +18,7 @@ loop-i-preserved c =
     let d = c in
     let l = d.loop-i in
     let s = d in
-    let f : SFits w64 (get_or s.args.costs.now l.i (pos 0)) = record { sfits = c.write_cost-arg-in-loop-i-1.given } in
+    let f : SFits w64 (get_or s.args.costs.now l.i (pos 0)) = record { sfits = omega arith } in
     writing_next 8 s.args.costs.now s.args.k s.args.out.now s.args.at s.requires.0 l.i l.invariant (omega arith) (omega arith)
     (rw (to_z-of_z f) at y.ensures)
 
