@@ -56,7 +56,7 @@ loop-p-preserved c =
           l.loop-p.invariant.2 l.loop-p.invariant.4 (for.ensures.end_is ∙ ap (λ k. first_state ws (k + 1)) (sym is))
           (ap (λ k. k - for.result.n) s.requires.0.sizes.h_is ∙ ap (λ k. horizon ws - k) (sym is)),
       next_near ws p for.result for.ensures,
-      c.action_line_lem.ensures ∙ ap (action_line ws p) n.count-n.ensures ∙ sym (state_next ws p),
+      c.action_line-at.ensures ∙ ap (action_line ws p) n.count-n.ensures ∙ sym (state_next ws p),
     )
 
 pub returns : goal.returns
