@@ -7,6 +7,7 @@ use Rattle.model.specs.Model.{action_count}
 use Rattle.lines.specs.Lines.{word_of}
 use Rattle.lines.proofs.Places.{state_after}
 use Rattle.lines.proofs.find_walking.Goals as goal
+use Rattle.lines.proofs.find_walking.Goals.{then-d-c, else-d-c}
 
 pub count-n-requires : goal.count-n-requires
 count-n-requires c = (c.requires.0, c.requires.1)
@@ -26,8 +27,10 @@ loop-d-preserved c =
     let s = l in (
       omega (arith, l.count-n.ensures),
       c.word_after-k.ensures,
-      λ h. ⊎_elim (λ w. w.1 ∙ l.loop-d.invariant.1 ∙ ap (word_of s.args.b.now s.args.p) w.0.true)
-          (λ w. w.1 ∙ l.loop-d.invariant.2 (omega (arith, w.0.left))) c.if-d-c.branch,
+      λ h. elim c.if-d-c.branch [
+        then-d-c w ↦ w.at-is ∙ l.loop-d.invariant.1 ∙ ap (word_of s.args.b.now s.args.p) w.if-d-c.true
+        | else-d-c w ↦ w.at-is ∙ l.loop-d.invariant.2 (omega (arith, w.if-d-c.false))
+      ],
     )
 
 pub returns : goal.returns
