@@ -17,7 +17,7 @@ use Rattle.book.proofs.Words.{fits64}
 use Rattle.costs.specs.Terms.{abs_expected}
 
 pub read64 : (z : ℤ) → mag z < 2 ^ 63 → to_z w64 (of_z w64 z) ≡ z
-read64 z h = to_z-of_z (record { sfits = h })
+read64 z h = to_z-of_z {w = w64} (record { sfits = h })
 
 module _ (acc : ℤ) (w : ℕ) (v : ℤ) (h : nat_abs acc + w * nat_abs v ≤ 4000000000000000000) where
   pub product_fits : SFits w64 (pos w *ℤ v)

@@ -35,7 +35,7 @@ module _ (s : goal.Start) where
 pub mul_add-start-requires : goal.mul_add-start-requires
 mul_add-start-requires c =
     let s = (goal.at.mul_add-start-requires c).Start in
-    rw (read64 c.cost.result c.cost.type-inv) (
+    rw (read64 c.cost.result c.cost.type_inv) (
       start_small s.args.unit _ c.cost.result _ _ s.requires.1 c.cost.ensures (total s),
       omega (
         arith,
@@ -45,13 +45,13 @@ mul_add-start-requires c =
     )
 
 first : (c : goal.After-mul_add-start) → c.mul_add-start.result ≡ pos 0 +ℤ pos c.args.unit *ℤ c.cost.result
-first c = rw (read64 c.cost.result c.cost.type-inv) at c.mul_add-start.ensures
+first c = rw (read64 c.cost.result c.cost.type_inv) at c.mul_add-start.ensures
 
 pub expect-requires : goal.expect-requires
 expect-requires c =
     let s = (goal.at.expect-requires c).Start in (
       s.requires.0,
-      rw (read64 c.mul_add-start.result c.mul_add-start.type-inv)
+      rw (read64 c.mul_add-start.result c.mul_add-start.type_inv)
           (start_rest s.args.unit _ c.cost.result _ _ s.requires.1 c.cost.ensures (total s) c.mul_add-start.result (first c)),
     )
 
@@ -59,8 +59,8 @@ pub returns : goal.returns
 returns c =
     let d = c in
     let s = (goal.at.returns d).Start in
-    rw (read64 c.expect.result c.expect.type-inv)
+    rw (read64 c.expect.result c.expect.type_inv)
     (c.expect.ensures
     ∙ ap (λ y. y +ℤ expected (value_at s.args.v.now) (action (ws s) s.args.p s.args.c).transitions)
-    (read64 d.mul_add-start.result d.mul_add-start.type-inv ∙ first (goal.at.returns d).After-mul_add-start
+    (read64 d.mul_add-start.result d.mul_add-start.type_inv ∙ first (goal.at.returns d).After-mul_add-start
     ∙ start_value s.args.unit _ d.cost.result _ _ s.requires.1 d.cost.ensures (total s)))

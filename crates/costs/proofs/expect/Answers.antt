@@ -62,7 +62,7 @@ loop-i-preserved c =
     let d = (goal.at.loop-i-preserved c).After-mul_add-arg-1 in (
       omega arith,
       one_summed (l d).loop-i.invariant.1 (front d) _
-          (read64 c.mul_add-acc.result c.mul_add-acc.type-inv ∙ (rw (read64 (value d) d.mul_add-arg-1.given) at c.mul_add-acc.ensures)),
+          (read64 c.mul_add-acc.result c.mul_add-acc.type_inv ∙ (rw (read64 (value d) d.mul_add-arg-1.given) at c.mul_add-acc.ensures)),
     )
 
 pub returns : goal.returns

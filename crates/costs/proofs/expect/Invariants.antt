@@ -19,7 +19,7 @@ use Rattle.costs.proofs.expect.Given as goal
 abbrev pub invariant-loop-i : goal.invariant-loop-i
 invariant-loop-i l =
     (l.i ≤ l.r)
-    × Summed (value_at l.v) (to_z w64 l.start +ℤ expected (value_at l.v) (action l.b l.p l.c).transitions) (to_z w64 l.acc) (drop l.i (action l.b l.p l.c).transitions)
+    × Summed (value_at l.v) (l.start +ℤ expected (value_at l.v) (action l.b l.p l.c).transitions) l.acc (drop l.i (action l.b l.p l.c).transitions)
 
 abbrev pub decreases-loop-i : goal.decreases-loop-i
 decreases-loop-i l = l.r - l.i
