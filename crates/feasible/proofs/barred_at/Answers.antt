@@ -1,16 +1,14 @@
 -- Assumes nothing.
 use mathlib.Core.Path.{◌≡◌, sym, ◌∙◌, subst}
-use mathlib.Core.Logic.{⊎_elim}
 use Prim.Native.Nat.{◌+◌, ◌-◌, ◌≤◌, ◌<◌}
 use native.Mathlib.Omega.{arith}
 use Rattle.model.specs.Model.{action_line}
-use Rattle.book.proofs.Words.{no, yes'}
 use Rattle.index.specs.Index.{ActionAt}
 use Rattle.index.proofs.Lines.{entered}
 use Rattle.feasible.specs.Barred.{goes_by}
 use Rattle.feasible.proofs.Sets.{MaskTo, mask_none, mask_on, mask_off, mask_leaves}
 use Rattle.feasible.proofs.barred_at.Goals as goal
-use Rattle.feasible.proofs.barred_at.Goals.{After-count-n, In-loop-c}
+use Rattle.feasible.proofs.barred_at.Goals.{After-count-n, In-loop-c, then-not-goes_on, else-not-goes_on}
 
 state : (c : goal.After-count-n) → c.args.p < 64
 state c = let s = c in (entered s.requires.0 s.args.p s.requires.1).small
@@ -57,12 +55,14 @@ loop-c-preserved c =
     let m = l.loop-c.invariant.2 in (
       omega arith,
       l.loop-c.invariant.1,
-      ⊎_elim
-          (λ t. subst (MaskTo ws s.args.p s.args.dead (l.loop-c.c + 1)) (sym (t.2 ∙ t.1.ensures))
-          (mask_off ws s.args.p s.args.dead l.loop-c.c l.loop-c.mask m (no {p = goes_by ws s.args.dead s.args.p l.loop-c.c} g.goes_on.ensures t.0.true)))
-          (λ t. subst (MaskTo ws s.args.p s.args.dead (l.loop-c.c + 1)) (sym t.1)
-          (mask_on ws s.args.p s.args.dead l.loop-c.c l.loop-c.mask m (yes' {p = goes_by ws s.args.dead s.args.p l.loop-c.c} g.goes_on.ensures t.0.left)))
-          a.if-not-goes_on.branch,
+      elim a.if-not-goes_on.branch [
+          then-not-goes_on w ↦
+              subst (MaskTo ws s.args.p s.args.dead (l.loop-c.c + 1)) (sym (w.mask-is ∙ w.with8-mask.ensures))
+              (mask_off ws s.args.p s.args.dead l.loop-c.c l.loop-c.mask m (sym g.goes_on.ensures ∙ w.if-not-goes_on.true))
+          | else-not-goes_on w ↦
+              subst (MaskTo ws s.args.p s.args.dead (l.loop-c.c + 1)) (sym w.mask-is)
+              (mask_on ws s.args.p s.args.dead l.loop-c.c l.loop-c.mask m (sym g.goes_on.ensures ∙ w.if-not-goes_on.false))
+      ],
       c.line_after-j.ensures,
     )
 

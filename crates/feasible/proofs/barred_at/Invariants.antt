@@ -1,11 +1,9 @@
 -- The set has those of the first c actions from which no policy goes on, and j is the first line of action c.
 -- Assumes nothing.
 use mathlib.Core.Path.{◌≡◌, sym, ◌∙◌, subst}
-use mathlib.Core.Logic.{⊎_elim}
 use Prim.Native.Nat.{◌+◌, ◌-◌, ◌≤◌, ◌<◌}
 use native.Mathlib.Omega.{arith}
 use Rattle.model.specs.Model.{action_line}
-use Rattle.book.proofs.Words.{no, yes'}
 use Rattle.index.specs.Index.{ActionAt}
 use Rattle.index.proofs.Lines.{entered}
 use Rattle.feasible.specs.Barred.{goes_by}

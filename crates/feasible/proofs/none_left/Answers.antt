@@ -1,9 +1,8 @@
 -- Assumes nothing.
-use mathlib.Core.Path.{◌≡◌, sym}
+use mathlib.Core.Path.{◌≡◌, sym, ◌∙◌}
 use mathlib.Core.Bool.{true}
 use Prim.Native.Nat.{ℕ, ◌-◌, ◌≤◌, ◌<◌}
 use native.Mathlib.Omega.{arith}
-use Rattle.book.proofs.Words.{no, yes'}
 use Rattle.sets.specs.Sets.{has}
 use Rattle.feasible.proofs.Sets.{one_left, none_free, one_more}
 use Rattle.feasible.proofs.none_left.Goals as goal
@@ -15,12 +14,12 @@ pub returns-then-not-has8 : goal.returns-then-not-has8
 returns-then-not-has8 c =
     let l = c in
     let s = l in
-    sym (one_left s.args.mask s.args.n l.loop-c.c c.loop-c-test.true (no c.has8.ensures c.if-not-has8.true-raw))
+    sym (one_left s.args.mask s.args.n l.loop-c.c c.loop-c-test.true (sym c.has8.ensures ∙ c.if-not-has8.true))
 
 pub loop-c-preserved : goal.loop-c-preserved
 loop-c-preserved c =
     let l = c in
-    (omega arith, one_more l.args.mask l.loop-c.c l.loop-c.invariant.1 (yes' c.has8.ensures c.if-not-has8.false-raw))
+    (omega arith, one_more l.args.mask l.loop-c.c l.loop-c.invariant.1 (sym c.has8.ensures ∙ c.if-not-has8.false))
 
 pub returns : goal.returns
 returns c =

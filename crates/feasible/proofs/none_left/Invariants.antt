@@ -4,7 +4,6 @@ use mathlib.Core.Path.{◌≡◌, sym}
 use mathlib.Core.Bool.{true}
 use Prim.Native.Nat.{ℕ, ◌-◌, ◌≤◌, ◌<◌}
 use native.Mathlib.Omega.{arith}
-use Rattle.book.proofs.Words.{no, yes'}
 use Rattle.sets.specs.Sets.{has}
 use Rattle.feasible.proofs.Sets.{one_left, none_free, one_more}
 use Rattle.feasible.proofs.none_left.Given as goal
