@@ -1,10 +1,8 @@
 -- After n turns s is the sum of the first n stages' sizes.
 -- Assumes nothing.
-use mathlib.Core.Path.{◌≡◌, sym, ap, ◌∙◌}
+use mathlib.Core.Path.{◌≡◌}
 use Prim.Native.Nat.{◌+◌, ◌*◌, ◌-◌, ◌≤◌}
-use native.Mathlib.Omega.{arith}
-use Rattle.model.specs.Model.{stage_size, first_state, state_count}
-use Rattle.questions.specs.Stages.{first_step, first-zero}
+use Rattle.model.specs.Model.{first_state}
 use Rattle.book.proofs.states.Given as goal
 
 abbrev pub invariant-loop-n : goal.invariant-loop-n

@@ -1,6 +1,5 @@
 -- The word read.
 -- Assumes nothing.
-use Prim.Native.Nat.{◌-◌}
 use Rattle.model.specs.Model.{word}
 use Rattle.book.proofs.Words.{read32}
 use Rattle.book.proofs.word_at.Goals as goal

@@ -1,15 +1,13 @@
 -- Assumes nothing.
-use mathlib.Core.Path.{◌≡◌, refl, sym, ap, ap₂, ◌∙◌, subst}
-use mathlib.Core.Bool.{Bool, true, false}
-use Prim.Native.Nat.{ℕ, ◌+◌, ◌*◌, ◌-◌, ◌≤◌, ◌<◌}
+use mathlib.Core.Path.{◌≡◌, refl, sym, ap₂, ◌∙◌}
+use mathlib.Core.Bool.{Bool}
+use Prim.Native.Nat.{ℕ}
 use native.Mathlib.Omega.{arith}
 use lib.IntN.{ℤ}
 use mir.Syntax.{w32}
 use mir.Val.{to_z, of_z}
 use mir.Facts.{to_z-of_z}
 use Rattle.model.specs.Lists.{all}
-use Rattle.model.specs.Model.{Words, word}
-use Rattle.model.specs.Questions.{inside}
 use Rattle.questions.specs.Ranges.{all_fails, all_more}
 use Rattle.book.proofs.Words.{no, yes'}
 use Rattle.book.proofs.words_in.Invariants.{between}
@@ -36,7 +34,7 @@ returns-then-not-word_in c =
 pub loop-i-preserved : goal.loop-i-preserved
 loop-i-preserved c =
     let l = c in
-    let s = l in
+    let s = (goal.at.loop-i-preserved c).Start in
     (omega arith, all_more l.loop-i.i (asked s) l.loop-i.invariant.1 (yes' c.word_in.ensures c.if-not-word_in.false-raw))
 
 pub returns : goal.returns

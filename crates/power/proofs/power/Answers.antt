@@ -4,7 +4,7 @@ use mathlib.Core.Path.{sym, ◌∙◌}
 use mathlib.Core.Bool.{and-false}
 use mathlib.Core.Logic.{⊎_elim}
 use native.Mathlib.Omega.{arith}
-use borrow.Author.Tests.{leb-true, leb-false, lt-leb}
+use borrow.Author.Tests.{leb-true, lt-leb}
 use Rattle.model.specs.Calls.{power_of}
 use Rattle.power.proofs.Range.{power_is}
 use Rattle.power.proofs.power.Goals as goal
