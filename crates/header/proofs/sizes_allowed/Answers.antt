@@ -1,18 +1,17 @@
 -- The three tests are the definition's own.
 -- Assumes nothing.
-use mathlib.Core.Path.{◌≡◌, ap, ◌∙◌}
+use mathlib.Core.Path.{◌≡◌, sym, ap, ◌∙◌}
 use Prim.Native.Nat.{ℕ}
 use native.Mathlib.Omega.{arith}
 use Rattle.model.specs.Lists.{all}
 use Rattle.model.specs.Model.{horizon}
 use Rattle.model.specs.Questions.{later_size, sizes_allowed}
-use Rattle.book.proofs.Words.{no, yes'}
 use Rattle.header.proofs.sizes_allowed.Goals as goal
 use Rattle.header.proofs.sizes_allowed.Goals.{After-words_in}
 
 pub returns-then-not-word_in : goal.returns-then-not-word_in
 unfolding sizes_allowed
-returns-then-not-word_in c = rw (no c.word_in.ensures c.if-not-word_in.true-raw)
+returns-then-not-word_in c = rw (sym c.word_in.ensures ∙ c.if-not-word_in.true)
 
 pub words_in-requires : goal.words_in-requires
 words_in-requires c = let s = c in omega (arith, s.requires.0.long, s.requires.1.h_is)
@@ -28,8 +27,8 @@ pub returns-then-not-words_in : goal.returns-then-not-words_in
 unfolding sizes_allowed
 returns-then-not-words_in c =
     rw (
-      yes' c.word_in.ensures c.if-not-word_in.false-raw,
-      no (later (goal.at.returns-then-not-words_in c).After-words_in) c.if-not-words_in.true-raw,
+      sym c.word_in.ensures ∙ c.if-not-word_in.false,
+      sym (later (goal.at.returns-then-not-words_in c).After-words_in) ∙ c.if-not-words_in.true,
     )
 
 pub returns : goal.returns
@@ -38,7 +37,7 @@ returns c =
     let d = c in
     let f = d in
     rw (
-      yes' f.word_in.ensures f.if-not-word_in.false-raw,
-      yes' (later (goal.at.returns d).After-words_in) c.if-not-words_in.false-raw,
+      sym f.word_in.ensures ∙ f.if-not-word_in.false,
+      sym (later (goal.at.returns d).After-words_in) ∙ c.if-not-words_in.false,
       f.requires.1.s_is,
     )
