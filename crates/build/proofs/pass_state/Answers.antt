@@ -14,67 +14,60 @@ use Rattle.accepted.specs.Bytes.{byte_is}
 use Rattle.sets.specs.Sets.{SetOf, set-union}
 use Rattle.build.proofs.Prefix.{passed_more, passed_bare}
 use Rattle.build.proofs.pass_state.Goals as goal
-use Rattle.build.proofs.pass_state.Goals.{Else-a-eq255, Start}
-
-abbrev ws : goal.Start → Words
-ws s = s.args.b.now
-
-abbrev bs : goal.Start → Policy
-bs s = s.args.plan.now
-
-there : (s : goal.Start) → get_or (bs s) s.args.s 0 ≡ byte_at (bs s) s.args.s
-there s = byte_is (bs s) s.args.s 0 255 s.requires.3.0
+use Rattle.build.proofs.pass_state.Goals.{Else-a-eq255}
 
 pub bounds-plan-s : goal.bounds-plan-s
 bounds-plan-s c = c.requires.3.0
 
-pub overflow_cast-a : goal.overflow_cast-a
-overflow_cast-a c = omega (arith, (c.shared_slice_known-2-1.given c.args.s).fits)
-
 pub returns-then-a-eq255 : goal.returns-then-a-eq255
 returns-then-a-eq255 c =
-    let s = (goal.at.returns-then-a-eq255 c).Start in
-    passed_bare (ws s) (bs s) s.requires.0 s.args.s s.requires.2 s.args.reach s.requires.4 (sym (there s) ∙ c.if-a-eq255.true)
+    let there : get_or c.args.plan.now c.args.s 0 ≡ byte_at c.args.plan.now c.args.s = byte_is c.args.plan.now c.args.s 0 255 c.requires.3.0 in
+    passed_bare c.args.b.now c.args.plan.now c.requires.0 c.args.s c.requires.2 c.args.reach c.requires.4 (sym there ∙ c.if-a-eq255.true)
 
 -- past the test it is an action of the state
 module _ (c : goal.Else-a-eq255) where
-  abbrev s : goal.Else-a-eq255
-  s = c
+  abbrev ws : Words
+  ws = c.args.b.now
 
-  goes_on : Feasible (ws s) s.args.s (get_or (bs s) s.args.s 0)
-  goes_on = go s.requires.3.1
+  abbrev bs : Policy
+  bs = c.args.plan.now
+
+  there : get_or bs c.args.s 0 ≡ byte_at bs c.args.s
+  there = byte_is bs c.args.s 0 255 c.requires.3.0
+
+  goes_on : Feasible ws c.args.s (get_or bs c.args.s 0)
+  goes_on = go c.requires.3.1
     where
-      go : (byte_at (bs s) s.args.s ≡ 255) ⊎ Feasible (ws s) s.args.s (byte_at (bs s) s.args.s) → Feasible (ws s) s.args.s (get_or (bs s) s.args.s 0)
-      go (inl e) = absurd (c.if-a-eq255.false (there (goal.at.overflow_mul-more s).Start ∙ e))
-      go (inr o) = subst (Feasible (ws s) s.args.s) (sym (there (goal.at.overflow_mul-more s).Start)) o
+      go : (byte_at bs c.args.s ≡ 255) ⊎ Feasible ws c.args.s (byte_at bs c.args.s) → Feasible ws c.args.s (get_or bs c.args.s 0)
+      go (inl e) = absurd (c.if-a-eq255.false (there ∙ e))
+      go (inr o) = subst (Feasible ws c.args.s) (sym there) o
 
-  small : (get_or (bs s) s.args.s 0 < 8) × (s.args.s < 64)
+  small : (get_or bs c.args.s 0 < 8) × (c.args.s < 64)
   small = (
-    feasible_small (ws s) s.requires.0 s.args.s s.requires.2 goes_on,
-    omega (arith, s.requires.2, (accepted (ws s) s.requires.0).sizes.s_high),
+    feasible_small ws c.requires.0 c.args.s c.requires.2 goes_on,
+    omega (arith, c.requires.2, (accepted ws c.requires.0).sizes.s_high),
   )
 
 pub overflow_mul-more : goal.overflow_mul-more
-overflow_mul-more c = omega (arith, small c)
+overflow_mul-more c = let a = small (goal.at.overflow_mul-more c).Else-a-eq255 in omega (arith, a)
 
 pub overflow_add-more : goal.overflow_add-more
-overflow_add-more c = omega (arith, small c)
+overflow_add-more c = let a = small (goal.at.overflow_add-more c).Else-a-eq255 in omega (arith, a)
 
 pub offset_bounds-nx-s : goal.offset_bounds-nx-s
-offset_bounds-nx-s c = omega (arith, small c)
+offset_bounds-nx-s c = let a = small (goal.at.offset_bounds-nx-s c).Else-a-eq255 in omega (arith, a)
 
 pub bounds-nx-s : goal.bounds-nx-s
-bounds-nx-s c = omega (arith, small (goal.at.bounds-nx-s c).Else-a-eq255)
+bounds-nx-s c = let a = small (goal.at.bounds-nx-s c).Else-a-eq255 in omega (arith, a)
 
 pub returns : goal.returns
 returns c =
     let e = (goal.at.returns c).Else-a-eq255 in
-    let s = s e in
-    let h = s.requires.4.walked in
-    let more = get_or s.args.nx.now (8 * s.args.s + get_or (bs s) s.args.s 0) 0 in
-    let on : SetOf more (nexts (action (ws s) s.args.s (byte_at (bs s) s.args.s)).transitions) =
-    subst (λ (a : ℕ). SetOf more (nexts (action (ws s) s.args.s a).transitions)) (there (goal.at.returns s).Start)
-    (s.requires.1.at s.args.s (get_or (bs s) s.args.s 0) s.requires.2 (goes_on e)) in
-    passed_more (ws s) (bs s) s.requires.0 s.args.s s.requires.2 s.args.reach s.requires.4 s.requires.3.1 c.union64.result
-    (subst (λ (m : ℕ). SetOf m (onward (action (ws s)) s.args.s (byte_at (bs s) s.args.s) h.reach)) (sym c.union64.ensures)
-    (set-union more s.args.reach _ h.reach on h.set_is))
+    let h = c.requires.4.walked in
+    let more = get_or c.args.nx.now (8 * c.args.s + get_or (bs e) c.args.s 0) 0 in
+    let on : SetOf more (nexts (action (ws e) c.args.s (byte_at (bs e) c.args.s)).transitions) =
+    subst (λ (a : ℕ). SetOf more (nexts (action (ws e) c.args.s a).transitions)) (there e)
+    (c.requires.1.at c.args.s (get_or (bs e) c.args.s 0) c.requires.2 (goes_on e)) in
+    passed_more (ws e) (bs e) c.requires.0 c.args.s c.requires.2 c.args.reach c.requires.4 c.requires.3.1 c.union64.result
+    (subst (λ (m : ℕ). SetOf m (onward (action (ws e)) c.args.s (byte_at (bs e) c.args.s) h.reach)) (sym c.union64.ensures)
+    (set-union more c.args.reach _ h.reach on h.set_is))

@@ -18,7 +18,7 @@ use Rattle.pool.proofs.Ascent.{cheaper_more}
 use Rattle.pool.proofs.cheaper.Given as goal
 
 abbrev pub invariant-loop-low : goal.invariant-loop-low
-invariant-loop-low l = (l.low ≤ l.high) × (l.high ≤ l.n) × Cheaper l.costs (to_z w64 l.cost) (take l.low (take l.n l.order))
+invariant-loop-low l = (l.low ≤ l.high) × (l.high ≤ l.n) × Cheaper l.costs l.cost (take l.low (take l.n l.order))
 
 abbrev pub decreases-loop-low : goal.decreases-loop-low
 decreases-loop-low l = l.high - l.low

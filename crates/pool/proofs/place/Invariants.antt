@@ -19,8 +19,8 @@ use Rattle.pool.proofs.place.Given as goal
 abbrev pub invariant-loop-i : goal.invariant-loop-i
 invariant-loop-i l =
     (l.i ≤ l.n)
-    × (first_yes (earlier_than (to_z w64 l.cost) (take l.s l.bytes) l.s l.costs l.plans) (take l.n l.order)
-    ≡ l.i + first_yes (earlier_than (to_z w64 l.cost) (take l.s l.bytes) l.s l.costs l.plans) (drop l.i (take l.n l.order)))
+    × (first_yes (earlier_than l.cost (take l.s l.bytes) l.s l.costs l.plans) (take l.n l.order)
+    ≡ l.i + first_yes (earlier_than l.cost (take l.s l.bytes) l.s l.costs l.plans) (drop l.i (take l.n l.order)))
 
 abbrev pub decreases-loop-i : goal.decreases-loop-i
 decreases-loop-i l = l.n - l.i

@@ -1,7 +1,6 @@
 -- Assumes nothing.
 use Prim.Native.Nat.{◌+◌, ◌-◌, ◌≤◌}
 use mathlib.Core.Path.{◌≡◌, sym, subst}
-use mathlib.Core.Logic.{⊎_elim}
 use native.Mathlib.Omega.{arith}
 use lib.ListN.{length}
 use Rattle.model.specs.Model.{state_count}
@@ -9,6 +8,7 @@ use Rattle.accepted.specs.Facts.{accepted}
 use Rattle.accepted.specs.Bytes.{policy_long}
 use Rattle.reach.proofs.Pass.{Passed, begin, byte-action, room, pass_action, pass_none, finish}
 use Rattle.reach.proofs.reach_weights.Goals as goal
+use Rattle.reach.proofs.reach_weights.Goals.{then-c-ne255, else-c-ne255}
 
 pub loop-p-init : goal.loop-p-init
 loop-p-init c =
@@ -20,9 +20,6 @@ loop-p-init c =
       policy_long ws s.requires.0.checked.ok bs s.requires.1,
       begin ws bs (_) c.first_weights.ensures,
     )
-
-pub overflow_cast-c : goal.overflow_cast-c
-overflow_cast-c c = omega (arith, c.shared_slice_known-in-loop-p-1.given c.loop-p.p)
 
 pub spread_action-requires : goal.spread_action-requires
 spread_action-requires c =
@@ -46,12 +43,14 @@ loop-p-preserved c =
       i.invariant.0,
       omega arith,
       i.invariant.2,
-      ⊎_elim
-          (λ k. subst (Passed ws bs (i.p + 1)) (sym k.4)
-          (pass_action ws s.requires.0.checked.ok bs s.requires.1 i.p (omega arith) i.w i.invariant.3 _ k.3.ensures))
-          (λ k. subst (Passed ws bs (i.p + 1)) (sym k.1)
-          (pass_none ws s.requires.0.checked.ok bs s.requires.1 i.p (omega arith) i.w i.invariant.3 k.0.left))
-          c.if-c-ne255.branch,
+      elim c.if-c-ne255.branch [
+        then-c-ne255 k ↦
+            subst (Passed ws bs (i.p + 1)) (sym k.w-is)
+            (pass_action ws s.requires.0.checked.ok bs s.requires.1 i.p (omega arith) i.w i.invariant.3 _ k.spread_action.ensures)
+      | else-c-ne255 k ↦
+            subst (Passed ws bs (i.p + 1)) (sym k.w-is)
+            (pass_none ws s.requires.0.checked.ok bs s.requires.1 i.p (omega arith) i.w i.invariant.3 k.if-c-ne255.false)
+      ],
     )
 
 pub returns : goal.returns
