@@ -175,13 +175,11 @@ module _ (zs : List ℤ) where
         up_to xs m (omega arith) a.1,
       )
 
-  pub cheaper_more : (xs : List ℕ) (m : ℕ) (x : ℤ) → m < length xs → Ascending (slot_costs zs xs) → lt_z (cost_at (get_or xs m 0)) x ≡ true
+  pub cheaper_more : (xs : List ℕ) (m : ℕ) (x : ℤ) → m < length xs → Ascending (slot_costs zs xs) → cost_at (get_or xs m 0) <ℤ x
       → Cheaper zs x (take (m + 1) xs)
-  cheaper_more xs m x h a t =
-      let l : cost_at (get_or xs m 0) <ℤ x = lt_z_yes (true-T t) in
+  cheaper_more xs m x h a l =
       rw add-one (every_imp (λ (j : ℕ) (k : cost_at j ≤ℤ cost_at (get_or xs m 0)). omega (ints, lt_in, k, l)) (take (suc m) xs) (up_to xs m h a))
 
-  -- none of them comes after
   pub cheaper_no : (ps bs : List ℕ) (s : ℕ) (x : ℤ) (js : List ℕ) → Cheaper zs x js → Every (λ (j : ℕ). earlier_than x bs s zs ps j ≡ false) js
   cheaper_no ps bs s x js h =
       every_imp (λ (j : ℕ) (k : cost_at j <ℤ x).

@@ -5,7 +5,10 @@ use native.Mathlib.Omega.{arith}
 use lib.IntN.{pos}
 use lib.ListN.{get_or}
 use borrow.Author.Tests.{eq-eqb, ne_eqb}
-use Rattle.costs.proofs.Sums.{read64}
+use mir.Syntax.{w64}
+use mir.Val.{SFits}
+use Rattle.std.proofs.Common.{rules}
+use Rattle.std.proofs.lemmas.Int.{to_z-of_z}
 use Rattle.pool.proofs.Moves.{slot_low}
 use Rattle.pool.proofs.beyond.Goals as goal
 use Rattle.pool.proofs.beyond.Goals.{Start}
@@ -24,10 +27,6 @@ bounds-costs-slot c = omega (arith, low (goal.at.bounds-costs-slot c).Start, c.s
 
 pub returns : goal.returns
 returns c =
-    let s = c in
-    rw (
-      eq-eqb s.args.n s.args.k c.if-n-k.false,
-      read64 s.args.cost s.ranges.cost.sfits,
-      read64 (get_or s.args.costs.now c.slot_at-slot.result (pos 0)) c.last-1.given,
-      c.slot_at-slot.ensures,
-    )
+    let y = get_or c.args.costs.now c.slot_at-slot.result (pos 0) in
+    let f : SFits w64 y = search rules in
+    rw (eq-eqb c.args.n c.args.k c.if-n-k.false, to_z-of_z w64 c.args.cost c.ranges.cost, to_z-of_z w64 y f, c.slot_at-slot.ensures)

@@ -47,9 +47,9 @@ module _ (s : goal.Start) where
 pub returns-then-i-s : goal.returns-then-i-s
 returns-then-i-s c =
     let d = c in
-    at-end (goal.at.returns-then-i-s d).Start d.first_difference.result d.first_difference.ensures.0 c.if-i-s.true
+    at-end (goal.at.returns-then-i-s d).Start d.first_difference-i.result d.first_difference-i.ensures.0 c.if-i-s.true
 
 pub returns : goal.returns
 returns c =
     let d = c in
-    decides (goal.at.returns d).Start d.first_difference.result d.first_difference.ensures.0 (omega arith)
+    decides (goal.at.returns d).Start d.first_difference-i.result d.first_difference-i.ensures.0 (omega arith)

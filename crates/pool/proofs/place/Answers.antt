@@ -8,7 +8,7 @@ use mir.Syntax.{w64}
 use mir.Val.{to_z, of_z}
 use lib.ListN.{length, get_or, take, drop}
 use lib.Seq.{length-take-le, get_or-take}
-use Rattle.costs.proofs.Sums.{read64}
+use Rattle.std.proofs.lemmas.Int.{to_z-of_z}
 use Rattle.pool.specs.Entries.{earlier_than, first_yes}
 use Rattle.pool.proofs.Moves.{slot_low}
 use Rattle.pool.proofs.Insertion.{yes_none, yes_skip, yes_here, yes_later}
@@ -33,7 +33,7 @@ module _ (s : goal.Start) where
   xs = take s.args.n s.args.order.now
 
   cost_is : to_z w64 (of_z w64 s.args.cost) ≡ s.args.cost
-  cost_is = read64 s.args.cost s.fits.cost.sfits
+  cost_is = to_z-of_z w64 s.args.cost s.ranges.cost
 
   abbrev test : ℕ → Bool
   test = earlier_than (to_z w64 (of_z w64 s.args.cost)) (take s.args.s s.args.bytes.now) s.args.s s.args.costs.now s.args.plans.now
