@@ -2,7 +2,7 @@
 -- Assumes nothing.
 use mathlib.Core.Path.{◌≡◌, refl, ap, ap₂, ◌∙◌}
 use mathlib.Core.Bool.{Bool, true, false, cond}
-use mathlib.Core.List.{[], ◌∷◌}
+use mathlib.Core.List.{List, [], ◌∷◌}
 use Prim.Native.Nat.{ℕ, ◌+◌, ◌*◌, ◌-◌, ◌≤◌, ◌<◌}
 use native.Mathlib.Nat.{mul-le-mul}
 use native.Mathlib.Omega.{arith}
@@ -14,12 +14,11 @@ use mir.Syntax.{w64}
 use mir.Val.{to_z, of_z}
 use lib.ListN.{length, take}
 use lib.Seq.{length-take-le}
-use Rattle.costs.proofs.Sums.{read64}
+use Rattle.std.proofs.lemmas.Int.{to_z-of_z}
 use Rattle.best_kept.specs.Placed.{opened, last_place, place_of}
 use Rattle.best_kept.specs.Insertion.{where_most}
 use borrow.Author.Rules.{rules}
 use Rattle.best_kept.proofs.keep.Goals as goal
-use Rattle.best_kept.proofs.keep.Tie as tie
 
 -- the last place is one of the first k, and none of the n that stay before it is after it
 last_low : (n k : ℕ) → 1 ≤ k → last_place n k < k
@@ -36,106 +35,94 @@ last_high n k i l h = go (ltb n k)
     go true = l
     go false = omega arith
 
+-- what is true where it goes in at place i, and `last` is the last place then
+record Goes (k i last bytes room : ℕ) : Type 0 where
+  low : last < k
+  high : i ≤ last
+  -- in bytes
+  roomy : last * bytes + bytes ≤ room
+  before : i * bytes ≤ last * bytes
+
+goes : (costs : List ℤ) (n k : ℕ) (cost : ℤ) (i last bytes room : ℕ) → n ≤ k → 1 ≤ k → k ≤ length costs → k * bytes ≤ room
+    → i ≡ place_of n cost costs → last ≡ last_place n k → i < k → Goes k i last bytes room
+goes costs n k cost i last bytes room few some long wide at end fewer =
+    record {
+      low = low;
+      high = high;
+      roomy = omega (arith, mul-le-mul {n₁ = last + 1} {m₁ = bytes} {n₂ = k} {m₂ = bytes} (omega (arith, low)) (omega arith));
+      before = mul-le-mul {n₁ = i} {m₁ = bytes} {n₂ = last} {m₂ = bytes} high (omega arith);
+    }
+  where
+    i-most : i ≤ n
+    i-most = omega (arith, at, where_most (lt_z cost) (take n costs), length-take-le n costs (omega arith))
+
+    low : last < k
+    low = omega (arith, end, last_low n k some)
+
+    high : i ≤ last
+    high = omega (arith, end, last_high n k i i-most fewer)
+
 pub place-i-requires : goal.place-i-requires
-place-i-requires c =
-    let s = c in
-    (omega (arith, s.requires.0, s.requires.2), omega (arith, s.requires.0, s.requires.3), s.requires.6)
-
--- a cost that is handed on is the same
-cost_is : (s : tie.Start) → to_z w64 (of_z w64 s.args.cost) ≡ s.args.cost
-cost_is s = read64 s.args.cost s.ranges.cost.sfits
-
-place_is : (a : tie.After-place) → let s = a.before.before.before in a.place-i.result ≡ place_of s.args.n s.args.cost s.args.costs.now
-place_is a =
-    let s = a.before.before.before in
-    a.place-i.ensures ∙ ap (λ (x : ℤ). place_of s.args.n x s.args.costs.now) (cost_is s)
+place-i-requires c = (omega arith, omega arith, c.requires.6)
 
 pub returns-then-k-i : goal.returns-then-k-i
-returns-then-k-i c = record { out = λ h. (refl, refl, refl); within = λ h. absurd (omega (arith, place_is c.before.before, c.if-k-i.true)) }
-
--- it goes in at place i, and n is the last place then
-module _ (p : tie.After-last_place) where
-  abbrev a : tie.After-last_place
-  a = p
-
-  abbrev s : tie.After-last_place
-  s = p
-
-  abbrev i : ℕ
-  i = a.place-i.result
-
-  abbrev last : ℕ
-  last = p.last_place-last.result
-
-  abbrev bytes : ℕ
-  bytes = length s.args.plan.now
-
-  fewer : i < s.args.k
-  fewer = omega (arith, p.if-k-i.false)
-
-  i-most : i ≤ s.args.n
-  i-most =
-      omega (
-        arith,
-        place_is a.before.before,
-        where_most (lt_z s.args.cost) (take s.args.n s.args.costs.now),
-        length-take-le s.args.n s.args.costs.now (omega (arith, s.requires.0, s.requires.3)),
-      )
-
-  low : last < s.args.k
-  low = omega (arith, p.last_place-last.ensures, last_low s.args.n s.args.k s.requires.1)
-
-  high : i ≤ last
-  high = omega (arith, p.last_place-last.ensures, last_high s.args.n s.args.k i i-most fewer)
-
-  -- in bytes
-  room : last * bytes + bytes ≤ length s.args.plans.now
-  room =
-      let h : last + 1 ≤ s.args.k = omega (arith, low) in
-      omega (arith, mul-le-mul {n₁ = last + 1} {m₁ = bytes} {n₂ = s.args.k} {m₂ = bytes} h (omega arith), s.requires.4)
-
-  before : i * bytes ≤ last * bytes
-  before = mul-le-mul {n₁ = i} {m₁ = bytes} {n₂ = last} {m₂ = bytes} high (omega arith)
+returns-then-k-i c =
+    let f = c.ranges.cost in
+    let e = simp to_z-of_z at c.place-i.ensures in
+    record { out = λ h. (refl, refl, refl); within = λ h. absurd (omega (arith, e, c.if-k-i.true)) }
 
 pub open_costs-requires : goal.open_costs-requires
 open_costs-requires c =
-    let p = c.before.before in
-    (high p, omega (arith, low p, (s p).requires.2), omega (arith, low p, (s p).requires.3))
+    let f = c.ranges.cost in
+    let e = simp to_z-of_z at c.place-i.ensures in
+    let g = goes c.args.costs.now c.args.n c.args.k c.args.cost c.place-i.result c.last_place-last.result (length c.args.plan.now) (length c.args.plans.now)
+        c.requires.0 c.requires.1 c.requires.3 c.requires.4 e c.last_place-last.ensures c.if-k-i.false in
+    (g.high, omega arith, omega arith)
 
 pub overflow_mul-i : goal.overflow_mul-i
 overflow_mul-i c =
-    let p = c.before.before.before.before.before in
-    let r = room p in
-    let b = before p in
+    let f = c.ranges.cost in
+    let e = simp to_z-of_z at c.place-i.ensures in
+    let g = goes c.args.costs.now c.args.n c.args.k c.args.cost c.place-i.result c.last_place-last.result (length c.args.plan.now) (length c.args.plans.now)
+        c.requires.0 c.requires.1 c.requires.3 c.requires.4 e c.last_place-last.ensures c.if-k-i.false in
     search rules
 
 pub overflow_mul-last : goal.overflow_mul-last
-overflow_mul-last c = let r = room c.before.before.before.before.before in search rules
+overflow_mul-last c =
+    let f = c.ranges.cost in
+    let e = simp to_z-of_z at c.place-i.ensures in
+    let g = goes c.args.costs.now c.args.n c.args.k c.args.cost c.place-i.result c.last_place-last.result (length c.args.plan.now) (length c.args.plans.now)
+        c.requires.0 c.requires.1 c.requires.3 c.requires.4 e c.last_place-last.ensures c.if-k-i.false in
+    search rules
 
 pub open_plans-requires : goal.open_plans-requires
 open_plans-requires c =
-    let p = c.before.before.before.before.before in
-    (before p, room p, (s p).requires.5)
+    let f = c.ranges.cost in
+    let e = simp to_z-of_z at c.place-i.ensures in
+    let g = goes c.args.costs.now c.args.n c.args.k c.args.cost c.place-i.result c.last_place-last.result (length c.args.plan.now) (length c.args.plans.now)
+        c.requires.0 c.requires.1 c.requires.3 c.requires.4 e c.last_place-last.ensures c.if-k-i.false in
+    (g.before, g.roomy, c.requires.5)
 
 pub overflow_add-result : goal.overflow_add-result
 overflow_add-result c =
-    let p = c.before.before.before.before.before.before.before.before in
-    omega (arith, low p, (s p).requires.2)
+    let f = c.ranges.cost in
+    let e = simp to_z-of_z at c.place-i.ensures in
+    let g = goes c.args.costs.now c.args.n c.args.k c.args.cost c.place-i.result c.last_place-last.result (length c.args.plan.now) (length c.args.plans.now)
+        c.requires.0 c.requires.1 c.requires.3 c.requires.4 e c.last_place-last.ensures c.if-k-i.false in
+    search rules
 
 pub returns : goal.returns
 returns c =
-    let o = c in
-    let q = o in
-    let p = q.before.before.before.before.before.before.before.before in
-    let e = place_is (a p) in
-    let f = p.last_place-last.ensures in
+    let r = c.ranges.cost in
+    let e = simp to_z-of_z at c.place-i.ensures in
+    let o = simp to_z-of_z at c.open_costs.ensures in
+    let f = c.last_place-last.ensures in
+    let bytes = length c.args.plan.now in
     record {
-      out = λ h. absurd (omega (arith, fewer p, e));
+      out = λ h. absurd (omega (arith, c.if-k-i.false, e));
       within = λ h. (
         ap (λ (m : ℕ). m + 1) f,
-        q.open_costs.ensures
-            ∙ ap (λ (x : ℤ). opened (i p) (last p) (x ∷ []) (s p).args.costs.now) (cost_is (s p))
-            ∙ ap₂ (λ (m n : ℕ). opened m n ((s p).args.cost ∷ []) (s p).args.costs.now) e f,
-        o.open_plans.ensures ∙ ap₂ (λ (m n : ℕ). opened (m * bytes p) (n * bytes p) (s p).args.plan.now (s p).args.plans.now) e f,
+        o ∙ ap₂ (λ (m n : ℕ). opened m n (c.args.cost ∷ []) c.args.costs.now) e f,
+        c.open_plans.ensures ∙ ap₂ (λ (m n : ℕ). opened (m * bytes) (n * bytes) c.args.plan.now c.args.plans.now) e f,
       );
     }

@@ -5,76 +5,52 @@ use mathlib.Core.List.{List}
 use Prim.Native.Nat.{ℕ, suc, ◌-◌, ◌≤◌, ◌<◌}
 use native.Mathlib.Omega.{arith}
 use lib.IntN.{ℤ, pos}
-use lib.Signed.{lt_z, le_z_yes}
-use mir.Syntax.{w64}
-use mir.Val.{to_z, of_z}
+use lib.Signed.{lt_z, ◌≤ℤ◌}
 use lib.ListN.{length, get_or, take}
 use lib.Seq.{length-take-le, get_or-take}
+use mir.Syntax.{w64}
+use mir.Val.{SFits}
+use borrow.Author.Rules.{rules}
+use Rattle.std.proofs.lemmas.Int.{ints, to_z-of_z}
 use Rattle.laws.specs.Members.{true-T}
-use Rattle.costs.proofs.Sums.{read64}
+use Rattle.model.specs.Lists.{first_where}
+use Rattle.best_kept.specs.Placed.{Ascends}
 use Rattle.best_kept.proofs.Found.{first_at, place_is, not_at_most}
 use Rattle.best_kept.proofs.place.Goals as goal
-use Rattle.best_kept.proofs.place.Goals.{After-here-1}
 
-pub loop-i-init : goal.loop-i-init
-loop-i-init c = (omega arith, λ h. absurd (omega arith))
+-- the cost at place i - 1 is not above x, and those from place i on are
+module _ (cs : List ℤ) (n : ℕ) (x : ℤ) (within : n ≤ length cs) (a : Ascends (take n cs)) where
+  same : (j : ℕ) → j < n → get_or (take n cs) j (pos 0) ≡ get_or cs j (pos 0)
+  same j k = get_or-take n cs j (pos 0) k
 
-pub offset_bounds-costs-i : goal.offset_bounds-costs-i
-offset_bounds-costs-i c = omega (arith, c.loop-i.invariant.0, c.requires.0)
+  found : (i : ℕ) → 0 < i → i ≤ n → get_or cs (i - 1) (pos 0) ≤ℤ x → (i < n → lt_z x (get_or cs i (pos 0)) ≡ true) → i ≡ first_where (lt_z x) (take n cs)
+  found i p l h above =
+      let e : suc (i - 1) ≡ i = omega arith in
+      let long = length-take-le n cs within in
+      sym e
+      ∙ place_is (take n cs) a x (i - 1) (omega (arith, long)) (rw (same (i - 1) (omega arith)) h)
+      (rw e (λ k. rw (same i (omega (arith, long))) (above (omega (arith, long)))))
 
-pub bounds-costs-i : goal.bounds-costs-i
-bounds-costs-i c = omega (arith, c.loop-i.invariant.0, c.requires.1, c.loop-i-test.true)
-
--- place i - 1 was looked at
-module _ (h : goal.After-here-1) where
-  abbrev l : goal.After-here-1
-  l = h
-
-  abbrev s : goal.After-here-1
-  s = h
-
-  abbrev zs : List ℤ
-  zs = take s.args.n s.args.costs.now
-
-  abbrev i : ℕ
-  i = l.loop-i.i
-
-  positive : 0 < i
-  positive = h.loop-i-test.true
-
-  cost_is : to_z w64 (of_z w64 s.args.cost) ≡ s.args.cost
-  cost_is = read64 s.args.cost s.fits.cost.sfits
-
-  here_is : to_z w64 (of_z w64 (get_or s.args.costs.now (i - 1) (pos 0))) ≡ get_or s.args.costs.now (i - 1) (pos 0)
-  here_is = read64 (get_or s.args.costs.now (i - 1) (pos 0)) h.here-1.given
-
-  long : length zs ≡ s.args.n
-  long = length-take-le s.args.n s.args.costs.now s.requires.1
-
-  same : (j : ℕ) → j < s.args.n → get_or zs j (pos 0) ≡ get_or s.args.costs.now j (pos 0)
-  same j k = get_or-take s.args.n s.args.costs.now j (pos 0) k
+  -- all are above it
+  none : (i : ℕ) → i ≡ 0 → (i < n → lt_z x (get_or cs i (pos 0)) ≡ true) → 0 ≡ first_where (lt_z x) (take n cs)
+  none i z above =
+      let long = length-take-le n cs within in
+      first_at (lt_z x) (pos 0) (take n cs) 0 (omega arith) (λ j k. absurd (omega arith))
+      (λ k. rw (same 0 (omega (arith, long))) (rw z at (above (omega (arith, long)))))
 
 pub returns-then-here-cost : goal.returns-then-here-cost
 returns-then-here-cost c =
-    let h = (goal.at.returns-then-here-cost c).After-here-1 in
-    let e : suc (i h - 1) ≡ i h = omega (arith, positive h) in
-    let below = le_z_yes (true-T (rw (here_is h, cost_is h) at c.if-here-cost.true)) in
-    sym e
-    ∙ place_is (zs h) (s h).requires.2 (s h).args.cost (i h - 1) (omega (arith, long h, positive h, (l h).loop-i.invariant.0))
-    (rw (same h (i h - 1) (omega (arith, positive h, (l h).loop-i.invariant.0))) below)
-    (rw e (λ k. rw (same h (i h) (omega (arith, long h))) (rw (cost_is h) at ((l h).loop-i.invariant.1 (omega (arith, long h))))))
+    let f = c.ranges.cost in
+    let g : SFits w64 (get_or c.args.costs.now (c.loop-i.i - 1) (pos 0)) = search rules in
+    let h = simp to_z-of_z at c.loop-i.invariant.1 in
+    found c.args.costs.now c.args.n c.args.cost c.requires.1 c.requires.2 c.loop-i.i c.loop-i-test.true c.loop-i.invariant.0
+    (record { le = true-T (simp to_z-of_z at c.if-here-cost.true) }) h
 
 pub loop-i-preserved : goal.loop-i-preserved
-loop-i-preserved c =
-    let h = (goal.at.loop-i-preserved c).After-here-1 in
-    (omega (arith, (l h).loop-i.invariant.0), λ k. not_at_most (to_z w64 (of_z w64 (s h).args.cost)) (get_or (s h).args.costs.now (i h - 1) (pos 0)) (rw (here_is h) at c.if-here-cost.false))
+loop-i-preserved c = (omega arith, λ k. grind (arith, ints))
 
 pub returns : goal.returns
 returns c =
-    let l = c in
-    let s = l in
-    let z : l.loop-i.i ≡ 0 = omega (arith, c.loop-i-test.false) in
-    let long = length-take-le s.args.n s.args.costs.now s.requires.1 in
-    first_at (lt_z s.args.cost) (pos 0) (take s.args.n s.args.costs.now) 0 (omega arith) (λ j k. absurd (omega arith))
-    (λ k. rw (get_or-take s.args.n s.args.costs.now 0 (pos 0) (omega (arith, long)))
-    (rw (read64 s.args.cost s.ranges.cost.sfits, z) at (l.loop-i.invariant.1 (omega (arith, long)))))
+    let f = c.ranges.cost in
+    let h = simp to_z-of_z at c.loop-i.invariant.1 in
+    none c.args.costs.now c.args.n c.args.cost c.requires.1 c.requires.2 c.loop-i.i (omega arith) h

@@ -17,7 +17,7 @@ use Rattle.best_kept.proofs.Found.{first_at, place_is, not_at_most}
 use Rattle.best_kept.proofs.place.Given as goal
 
 abbrev pub invariant-loop-i : goal.invariant-loop-i
-invariant-loop-i l = (l.i ≤ l.n) × (l.i < l.n → lt_z (to_z w64 l.cost) (get_or l.costs l.i (pos 0)) ≡ true)
+invariant-loop-i l = (l.i ≤ l.n) × (l.i < l.n → lt_z l.cost (get_or l.costs l.i (pos 0)) ≡ true)
 
 abbrev pub decreases-loop-i : goal.decreases-loop-i
 decreases-loop-i l = l.i
