@@ -7,7 +7,7 @@ use native.Mathlib.Omega.{arith}
 use lib.ListN.{drop}
 use Rattle.model.specs.Bytes.{words_of}
 use Rattle.book.proofs.Words.{read32}
-use Rattle.bytes_io.proofs.Parts.{Filling, fill_start, fill_one, fill_end, written-front}
+use Rattle.bytes_io.proofs.Parts.{fill_start, fill_one, fill_end, written-front}
 use Rattle.bytes_io.proofs.Numbers.{words_step, length-words}
 use Rattle.bytes_io.proofs.read_words.Goals as goal
 

@@ -1,15 +1,9 @@
 -- The words still to be read, written over what stands there now, give the result.
 -- Assumes nothing.
-use mathlib.Core.Path.{◌≡◌, sym, ap, ◌∙◌}
-use mathlib.Core.List.{◌∷◌}
 use Prim.Native.Nat.{◌+◌, ◌*◌, ◌-◌}
-use native.Mathlib.Nat.{add-zero}
-use native.Mathlib.Omega.{arith}
 use lib.ListN.{drop}
 use Rattle.model.specs.Bytes.{words_of}
-use Rattle.book.proofs.Words.{read32}
-use Rattle.bytes_io.proofs.Parts.{Filling, fill_start, fill_one, fill_end, written-front}
-use Rattle.bytes_io.proofs.Numbers.{words_step, length-words}
+use Rattle.bytes_io.proofs.Parts.{Filling}
 use Rattle.bytes_io.proofs.read_words.Given as goal
 
 abbrev pub invariant-loop-i : goal.invariant-loop-i

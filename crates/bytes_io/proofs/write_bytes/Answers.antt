@@ -2,8 +2,7 @@
 use mathlib.Core.Path.{◌≡◌, refl}
 use Prim.Native.Nat.{◌+◌, ◌-◌}
 use native.Mathlib.Omega.{arith}
-use lib.ListN.{take, drop}
-use Rattle.bytes_io.proofs.Parts.{Filling, fill_start, fill_one, fill_end, part_step}
+use Rattle.bytes_io.proofs.Parts.{fill_start, fill_one, fill_end, part_step}
 use Rattle.bytes_io.proofs.write_bytes.Goals as goal
 
 pub loop-i-init : goal.loop-i-init

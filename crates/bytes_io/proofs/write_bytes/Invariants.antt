@@ -1,10 +1,8 @@
 -- The bytes still to be copied, written over what stands there now, give the result.
 -- Assumes nothing.
-use mathlib.Core.Path.{◌≡◌, refl}
-use Prim.Native.Nat.{◌+◌, ◌-◌}
-use native.Mathlib.Omega.{arith}
+use Prim.Native.Nat.{◌-◌}
 use lib.ListN.{take, drop}
-use Rattle.bytes_io.proofs.Parts.{Filling, fill_start, fill_one, fill_end, part_step}
+use Rattle.bytes_io.proofs.Parts.{Filling}
 use Rattle.bytes_io.proofs.write_bytes.Given as goal
 
 abbrev pub invariant-loop-i : goal.invariant-loop-i

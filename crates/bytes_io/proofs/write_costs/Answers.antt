@@ -1,12 +1,11 @@
 -- Assumes nothing.
-use Prim.Native.Nat.{◌-◌}
 use native.Mathlib.Omega.{arith}
 use lib.IntN.{pos}
 use lib.ListN.{get_or}
 use mir.Facts.{to_z-of_z}
 use mir.Syntax.{w64}
 use mir.Val.{SFits}
-use Rattle.bytes_io.proofs.Numbers.{Writing, writing_start, writing_next, writing_end}
+use Rattle.bytes_io.proofs.Numbers.{writing_start, writing_next, writing_end}
 use Rattle.bytes_io.proofs.write_costs.Goals as goal
 
 pub loop-i-init : goal.loop-i-init

@@ -1,13 +1,7 @@
 -- The costs before cost i are written.
 -- Assumes nothing.
 use Prim.Native.Nat.{◌-◌}
-use native.Mathlib.Omega.{arith}
-use lib.IntN.{pos}
-use lib.ListN.{get_or}
-use mir.Facts.{to_z-of_z}
-use mir.Syntax.{w64}
-use mir.Val.{SFits}
-use Rattle.bytes_io.proofs.Numbers.{Writing, writing_start, writing_next, writing_end}
+use Rattle.bytes_io.proofs.Numbers.{Writing}
 use Rattle.bytes_io.proofs.write_costs.Given as goal
 
 abbrev pub invariant-loop-i : goal.invariant-loop-i

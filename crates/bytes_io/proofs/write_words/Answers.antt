@@ -1,6 +1,6 @@
 -- Assumes nothing.
 use mathlib.Core.Path.{◌≡◌, ap, ◌∙◌}
-use Prim.Native.Nat.{◌+◌, ◌*◌, ◌-◌, ◌<◌}
+use Prim.Native.Nat.{◌+◌, ◌*◌, ◌<◌}
 use native.Mathlib.Omega.{arith}
 use lib.IntN.{ℤ, pos}
 use lib.Signed.{mag}
@@ -12,7 +12,7 @@ use mir.Val.{SFits}
 use Rattle.model.specs.Bytes.{bytes}
 use Rattle.book.proofs.Words.{wider}
 use Rattle.bytes_io.specs.Slices.{written, complement}
-use Rattle.bytes_io.proofs.Numbers.{complement-bytes, Writing, writing_start, writing_next, writing_end}
+use Rattle.bytes_io.proofs.Numbers.{complement-bytes, writing_start, writing_next, writing_end}
 use Rattle.bytes_io.proofs.write_words.Goals as goal
 
 pub loop-i-init : goal.loop-i-init
