@@ -10,5 +10,5 @@ returns c =
     let g = f in
     let h = g in
     let s = h in
-    head_written s.args.out.now h.write4.new.0 g.write4-2.new.0 f.write4-3.new.0 d.write_words.new.0 s.args.b.now
+    head_written s.args.out.now h.write4.new.out g.write4-2.new.out f.write4-3.new.out d.write_words.new.out s.args.b.now
     s.args.k s.args.n s.requires.0 h.write4.ensures g.write4-2.ensures f.write4-3.ensures d.write_words.ensures
