@@ -1,10 +1,8 @@
 -- After d turns j is the first line of action d.
 -- Assumes nothing.
-use mathlib.Core.Path.{◌≡◌, sym, ap, ◌∙◌}
+use mathlib.Core.Path.{◌≡◌}
 use Prim.Native.Nat.{◌-◌, ◌≤◌}
-use native.Mathlib.Omega.{arith}
 use Rattle.model.specs.Model.{action_line}
-use Rattle.index.proofs.Lines.{line_start}
 use Rattle.index.proofs.action_line.Given as goal
 
 abbrev pub invariant-loop-d : goal.invariant-loop-d

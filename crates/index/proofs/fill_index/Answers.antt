@@ -1,9 +1,8 @@
 -- Assumes nothing.
 use mathlib.Core.Path.{◌≡◌, refl, sym, ap, ◌∙◌, subst}
-use Prim.Native.Nat.{◌+◌, ◌-◌, ◌≤◌}
+use Prim.Native.Nat.{◌+◌, ◌-◌}
 use native.Mathlib.Omega.{arith}
 use Rattle.model.specs.Model.{horizon, first_state, state_count, togo, state_line, action_line}
-use Rattle.book.specs.Read.{StageNear}
 use Rattle.accepted.specs.Facts.{accepted}
 use Rattle.book.proofs.Stages.{start_near, for_stage, next_near}
 use Rattle.index.specs.Index.{IndexTo}
