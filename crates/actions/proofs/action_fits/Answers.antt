@@ -1,6 +1,6 @@
 -- The words read are those of the left column.
 -- Assumes nothing.
-use mathlib.Core.Path.{◌≡◌, refl}
+use mathlib.Core.Path.{◌≡◌, refl, sym, ◌∙◌}
 use mathlib.Core.Bool.{Bool, true, false, cond}
 use Prim.Native.Nat.{◌+◌, ◌-◌}
 use native.Mathlib.Omega.{arith}
@@ -10,7 +10,6 @@ use mir.Syntax.{w32}
 use mir.Val.{to_z, of_z}
 use Rattle.model.specs.Model.{word}
 use Rattle.model.specs.Questions.{inside, most_branches}
-use Rattle.book.proofs.Words.{no, yes'}
 use Rattle.actions.proofs.Steps.{unbranched, fit_is}
 use Rattle.actions.proofs.action_fits.Goals as goal
 use Rattle.actions.proofs.action_fits.Goals.{After-word_in, Start}
@@ -38,11 +37,11 @@ word_in-requires c = omega (arith, c.requires.2.to)
 pub returns-then-not-word_in : goal.returns-then-not-word_in
 returns-then-not-word_in c =
     let s = (goal.at.returns-then-not-word_in c).Start in
-    unbranched s.args.b.now s.args.z s.requires.1 s.args.n _ s.args.at (line s) (no (tested (goal.at.returns-then-not-word_in c).After-word_in) c.if-not-word_in.true-raw)
+    unbranched s.args.b.now s.args.z s.requires.1 s.args.n _ s.args.at (line s) (sym (tested (goal.at.returns-then-not-word_in c).After-word_in) ∙ c.if-not-word_in.true)
 
 pub returns : goal.returns
 returns c =
     let w = c in
     let s = (goal.at.returns w).Start in
-    fit_is s.args.b.now s.args.z s.requires.1 s.args.n _ s.args.at (line s) (yes' (tested (goal.at.returns w).After-word_in) w.if-not-word_in.false-raw) c.size_at.result
+    fit_is s.args.b.now s.args.z s.requires.1 s.args.n _ s.args.at (line s) (sym (tested (goal.at.returns w).After-word_in) ∙ w.if-not-word_in.false) c.size_at.result
     c.size_at.ensures.is

@@ -7,16 +7,17 @@ use native.Mathlib.Omega.{arith}
 use borrow.Author.Tests.{le-leb, lt-leb}
 use lib.Dec.{leb}
 use lib.ListN.{length}
-use Rattle.model.specs.Model.{Words, line_after}
-use Rattle.model.specs.Questions.{cost_allowed, nexts_allowed, weights_allowed}
+use Rattle.model.specs.Lists.{all}
+use Rattle.model.specs.Model.{Words, word, line_after}
+use Rattle.model.specs.Questions.{cost_allowed, nexts_allowed, weights_allowed, open_size}
 use Rattle.questions.specs.Ranges.{and-true}
-use Rattle.book.proofs.Words.{no, yes'}
-use Rattle.actions.specs.Action.{cost_up_to}
+use Rattle.actions.specs.Action.{next_allowed, weights_fit, cost_up_to}
 use Rattle.actions.proofs.Steps.{fit_bound, cost-asked, bound_asked, nexts_are, weights_are, ten, eleven, twelve, thirteen, zero-all}
 use Rattle.actions.proofs.action_number.Goals as goal
-use Rattle.actions.proofs.action_number.Tie as tie
+use Rattle.actions.proofs.action_number.Goals.{Start}
 
-module _ (s : tie.Start) where
+-- what is known of the action
+module _ (s : goal.Start) where
   abbrev ws : Words
   ws = s.args.b.now
 
@@ -40,96 +41,84 @@ module _ (s : tie.Start) where
   long : length ws ≤ 4172
   long = omega (arith, s.requires.0.exact, s.requires.0.h_high, s.requires.0.s_high, s.requires.0.l_high)
 
+  -- the questions 10 and 13, by the size that was read
+  module _ (size : ℕ) (read : size ≡ open_size (word ws (s.args.at + s.args.z.l))) where
+    at_cost : s.args.at + s.args.z.l ≡ s.args.z.columns + j + s.args.z.l
+    at_cost = omega (arith, line)
+
+    cost : leb size 100000 ≡ cost_allowed ws n j
+    cost = cost-asked ws s.args.z s.requires.1 n j _ size at_cost read
+
+    cost_yes : size ≤ 100000 → cost_allowed ws n j ≡ true
+    cost_yes l = sym cost ∙ le-leb size 100000 l
+
+    bounded : leb size s.args.q.most ≡ cost_up_to s.args.q.most ws n j
+    bounded = bound_asked ws s.args.z s.requires.1 n j _ size at_cost read s.args.q.most
+
+  -- 11
+  nexts : all s.args.r (next_allowed ws (s.args.at + 1) s.args.q.width) ≡ nexts_allowed ws n j
+  nexts =
+      nexts_are ws s.args.z s.requires.1 n j _ _ _ (omega (arith, line)) s.requires.2.r_is s.requires.2.width_is
+
+  -- 11 and 12
+  lines : (all s.args.r (next_allowed ws (s.args.at + 1) s.args.q.width) && weights_fit ws (s.args.at + 1 + s.args.z.l) s.args.r s.args.z.d)
+      ≡ (nexts_allowed ws n j && weights_allowed ws n j)
+  lines =
+      ap₂ ◌&&◌ nexts
+      (weights_are ws s.args.z s.requires.1 n j s.requires.2.fit _ _ (omega (arith, line)) s.requires.2.r_is)
+
 pub overflow_add-at : goal.overflow_add-at
-overflow_add-at c = omega (arith, bound c.before, long c.before)
+overflow_add-at c = let s = (goal.at.overflow_add-at c).Start in omega (arith, bound s, long s)
 
 pub open_size-size-requires : goal.open_size-size-requires
-open_size-size-requires c = omega (arith, bound c.before)
-
--- the questions 10 and 13, by the size that was read
-module _ (c : tie.After-open_size) where
-  abbrev s : tie.After-open_size
-  s = c
-
-  abbrev size : ℕ
-  size = c.open_size-size.result
-
-  at_cost : s.args.at + s.args.z.l ≡ s.args.z.columns + j s.before + s.args.z.l
-  at_cost = omega (arith, line s.before)
-
-  cost : leb size 100000 ≡ cost_allowed (ws s.before) (n s.before) (j s.before)
-  cost = cost-asked (ws s.before) s.args.z s.requires.1 (n s.before) (j s.before) _ size at_cost c.open_size-size.ensures
-
-  bounded : leb size s.args.q.most ≡ cost_up_to s.args.q.most (ws s.before) (n s.before) (j s.before)
-  bounded = bound_asked (ws s.before) s.args.z s.requires.1 (n s.before) (j s.before) _ size at_cost c.open_size-size.ensures s.args.q.most
-
-cost_yes : (c : tie.Else1) → cost_allowed (ws (s c.before)) (n (s c.before)) (j (s c.before)) ≡ true
-cost_yes c = sym (cost c.before) ∙ le-leb (size c.before) 100000 c.if-size-gt-MOST_COST.false
-
--- 11 and 12
-lines : (c : tie.After-lines_allowed) →
-    let s = c.before.before.before in
-    c.lines_allowed.result ≡ (nexts_allowed (ws s) (n s) (j s) && weights_allowed (ws s) (n s) (j s))
-lines c =
-    let s = c.before.before.before in
-    c.lines_allowed.ensures
-    ∙ ap₂ ◌&&◌ (nexts_are (ws s) s.args.z s.requires.1 (n s) (j s) _ _ _ (omega (arith, line s)) s.requires.2.r_is s.requires.2.width_is)
-    (weights_are (ws s) s.args.z s.requires.1 (n s) (j s) s.requires.2.fit _ _ (omega (arith, line s)) s.requires.2.r_is)
-
--- 11
-nexts : (c : tie.After-nexts_allowed) →
-    let s = c.before.before.before.before.before in
-    c.nexts_allowed.result ≡ nexts_allowed (ws s) (n s) (j s)
-nexts c =
-    let s = c.before.before.before.before.before in
-    c.nexts_allowed.ensures
-    ∙ nexts_are (ws s) s.args.z s.requires.1 (n s) (j s) _ _ _ (omega (arith, line s)) s.requires.2.r_is s.requires.2.width_is
+open_size-size-requires c = let s = (goal.at.open_size-size-requires c).Start in omega (arith, bound s)
 
 pub returns-then-size-gt-MOST_COST : goal.returns-then-size-gt-MOST_COST
 returns-then-size-gt-MOST_COST c =
-    let s = c.before.before.before in
-    ten s.args.q.most (ws s) (n s) (j s) s.requires.2.fit (sym (cost c.before.before) ∙ lt-leb (size c.before.before) 100000 c.if-size-gt-MOST_COST.true)
+    let s = (goal.at.returns-then-size-gt-MOST_COST c).Start in
+    ten s.args.q.most (ws s) (n s) (j s) s.requires.2.fit
+    (sym (cost s _ c.open_size-size.ensures) ∙ lt-leb _ 100000 c.if-size-gt-MOST_COST.true)
 
 pub overflow_add-at-2 : goal.overflow_add-at-2
-overflow_add-at-2 c = let s = c.before.before.before in omega (arith, bound s, long s)
+overflow_add-at-2 c = let s = (goal.at.overflow_add-at-2 c).Start in omega (arith, bound s, long s)
 
 pub lines_allowed-requires : goal.lines_allowed-requires
-lines_allowed-requires c = let s = c.before.before.before in (omega (arith, bound s), long s)
+lines_allowed-requires c = let s = (goal.at.lines_allowed-requires c).Start in (omega (arith, bound s), long s)
 
 pub overflow_add-at-then-not-lines_allowed : goal.overflow_add-at-then-not-lines_allowed
-overflow_add-at-then-not-lines_allowed c = let s = c.before.before.before.before.before in omega (arith, bound s, long s)
+overflow_add-at-then-not-lines_allowed c =
+    let s = (goal.at.overflow_add-at-then-not-lines_allowed c).Start in omega (arith, bound s, long s)
 
 pub nexts_allowed-requires : goal.nexts_allowed-requires
-nexts_allowed-requires c = let s = c.before.before.before.before.before in (omega (arith, bound s), long s)
+nexts_allowed-requires c = let s = (goal.at.nexts_allowed-requires c).Start in (omega (arith, bound s), long s)
 
 pub returns-then-not-nexts_allowed : goal.returns-then-not-nexts_allowed
 returns-then-not-nexts_allowed c =
-    let e = c in
-    let s = e.before.before.before.before.before.before.before in
-    eleven s.args.q.most (ws s) (n s) (j s) s.requires.2.fit (cost_yes e.before.before.before.before.before) (no (nexts c.before.before) c.if-not-nexts_allowed.true-raw)
+    let s = (goal.at.returns-then-not-nexts_allowed c).Start in
+    eleven s.args.q.most (ws s) (n s) (j s) s.requires.2.fit
+    (cost_yes s _ c.open_size-size.ensures c.if-size-gt-MOST_COST.false)
+    (sym (c.nexts_allowed.ensures ∙ nexts s) ∙ c.if-not-nexts_allowed.true)
 
 pub returns-then-not-lines_allowed : goal.returns-then-not-lines_allowed
 returns-then-not-lines_allowed c =
-    let f = c in
-    let e = f in
-    let s = e.before.before.before.before.before.before.before in
-    let g = yes' (nexts c.before.before) c.if-not-nexts_allowed.false-raw in
-    twelve s.args.q.most (ws s) (n s) (j s) s.requires.2.fit (cost_yes e.before.before.before.before.before) g (rw g at (no (lines f.before.before.before.before) f.if-not-lines_allowed.true-raw))
+    let s = (goal.at.returns-then-not-lines_allowed c).Start in
+    let g = sym (c.nexts_allowed.ensures ∙ nexts s) ∙ c.if-not-nexts_allowed.false in
+    twelve s.args.q.most (ws s) (n s) (j s) s.requires.2.fit
+    (cost_yes s _ c.open_size-size.ensures c.if-size-gt-MOST_COST.false) g
+    (rw g at (sym (c.lines_allowed.ensures ∙ lines s) ∙ c.if-not-lines_allowed.true))
 
 pub returns-then-q-size : goal.returns-then-q-size
 returns-then-q-size c =
-    let f = c in
-    let e = f in
-    let s = e.before.before.before.before.before.before.before in
-    let g = and-true _ _ (yes' (lines f.before.before.before.before) f.if-not-lines_allowed.false-raw) in
-    thirteen s.args.q.most (ws s) (n s) (j s) s.requires.2.fit (cost_yes e.before.before.before.before.before) g.0 g.1
-    (sym (bounded e.before.before.before.before.before.before) ∙ lt-leb (size e.before.before.before.before.before.before) s.args.q.most c.if-q-size.true)
+    let s = (goal.at.returns-then-q-size c).Start in
+    let g = and-true _ _ (sym (c.lines_allowed.ensures ∙ lines s) ∙ c.if-not-lines_allowed.false) in
+    thirteen s.args.q.most (ws s) (n s) (j s) s.requires.2.fit
+    (cost_yes s _ c.open_size-size.ensures c.if-size-gt-MOST_COST.false) g.0 g.1
+    (sym (bounded s _ c.open_size-size.ensures) ∙ lt-leb _ s.args.q.most c.if-q-size.true)
 
 pub returns : goal.returns
 returns c =
-    let f = c in
-    let e = f in
-    let s = e.before.before.before.before.before.before.before in
-    let g = and-true _ _ (yes' (lines f.before.before.before.before) f.if-not-lines_allowed.false-raw) in
-    zero-all s.args.q.most (ws s) (n s) (j s) s.requires.2.fit (cost_yes e.before.before.before.before.before) g.0 g.1
-    (sym (bounded e.before.before.before.before.before.before) ∙ le-leb (size e.before.before.before.before.before.before) s.args.q.most c.if-q-size.false)
+    let s = (goal.at.returns c).Start in
+    let g = and-true _ _ (sym (c.lines_allowed.ensures ∙ lines s) ∙ c.if-not-lines_allowed.false) in
+    zero-all s.args.q.most (ws s) (n s) (j s) s.requires.2.fit
+    (cost_yes s _ c.open_size-size.ensures c.if-size-gt-MOST_COST.false) g.0 g.1
+    (sym (bounded s _ c.open_size-size.ensures) ∙ le-leb _ s.args.q.most c.if-q-size.false)

@@ -3,7 +3,6 @@
 use mathlib.Core.Path.{sym, ◌∙◌}
 use native.Mathlib.Omega.{arith}
 use borrow.Author.Tests.{le-leb}
-use Rattle.book.proofs.Words.{no, yes'}
 use Rattle.actions.proofs.Steps.{lines_no, lines_last}
 use Rattle.actions.proofs.lines_allowed.Goals as goal
 
@@ -13,7 +12,7 @@ returns-then-r-eq0 c = rw c.if-r-eq0.true (sym (le-leb 0 c.args.z.d (omega arith
 pub returns-then-not-lines_rise : goal.returns-then-not-lines_rise
 returns-then-not-lines_rise c =
     let s = c.args in
-    lines_no s.b.now s.at s.width _ s.r (no c.lines_rise.ensures c.if-not-lines_rise.true-raw)
+    lines_no s.b.now s.at s.width _ s.r (sym c.lines_rise.ensures ∙ c.if-not-lines_rise.true)
 
 pub returns : goal.returns
 returns c =
@@ -21,4 +20,4 @@ returns c =
     let e = f in
     let s = e.args in
     c.word_below.ensures
-    ∙ lines_last s.b.now s.at s.width _ s.r e.if-r-eq0.false (yes' f.lines_rise.ensures f.if-not-lines_rise.false-raw)
+    ∙ lines_last s.b.now s.at s.width _ s.r e.if-r-eq0.false (sym f.lines_rise.ensures ∙ f.if-not-lines_rise.false)

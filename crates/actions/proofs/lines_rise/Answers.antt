@@ -10,7 +10,7 @@ use mir.Val.{to_z}
 use Rattle.model.specs.Lists.{all, sum_to}
 use Rattle.model.specs.Model.{Words, word}
 use Rattle.questions.specs.Ranges.{and_right, all_fails, all_more, sum_step}
-use Rattle.book.proofs.Words.{no, yes', read32}
+use Rattle.book.proofs.Words.{read32}
 use Rattle.actions.specs.Action.{prev_at, next_above}
 use Rattle.actions.proofs.Steps.{prev_step}
 use Rattle.actions.proofs.lines_rise.Invariants.{positive}
@@ -31,14 +31,14 @@ pub returns-then-not-word_above : goal.returns-then-not-word_above
 returns-then-not-word_above c =
     let l = c in
     let s = l.args in
-    sym (rw (all_fails s.r (next_above s.b.now s.at) l.loop-i.i (omega arith) (no (above (goal.at.returns-then-not-word_above c).After-word_above) c.if-not-word_above.true-raw)))
+    sym (rw (all_fails s.r (next_above s.b.now s.at) l.loop-i.i (omega arith) (sym (above (goal.at.returns-then-not-word_above c).After-word_above) ∙ c.if-not-word_above.true)))
 
 pub returns-then-not-word_above-2 : goal.returns-then-not-word_above-2
 returns-then-not-word_above-2 c =
     let l = c in
     let s = l.args in
     sym
-    (rw (all_fails s.r (positive s.b.now (s.at + s.l)) l.loop-i.i (omega arith) (no c.word_above-in-loop-i.ensures c.if-not-word_above-2.true-raw))
+    (rw (all_fails s.r (positive s.b.now (s.at + s.l)) l.loop-i.i (omega arith) (sym c.word_above-in-loop-i.ensures ∙ c.if-not-word_above-2.true))
     (and_right (all s.r (next_above s.b.now s.at))))
 
 pub overflow_add-sum : goal.overflow_add-sum
@@ -52,9 +52,9 @@ loop-i-preserved c =
     let l = e in
     let s = l.args in (
       omega arith,
-      read32 w.word_at-before.result w.word_at-before.type-inv ∙ w.word_at-before.ensures ∙ sym (prev_step s.b.now s.at l.loop-i.i),
-      all_more l.loop-i.i (next_above s.b.now s.at) l.loop-i.invariant.2 (yes' (above (goal.at.loop-i-preserved e).After-word_above) e.if-not-word_above.false-raw),
-      all_more l.loop-i.i (positive s.b.now (s.at + s.l)) l.loop-i.invariant.3 (yes' f.word_above-in-loop-i.ensures f.if-not-word_above-2.false-raw),
+      read32 c.word_at-before.result c.word_at-before.type_inv ∙ c.word_at-before.ensures ∙ sym (prev_step s.b.now s.at l.loop-i.i),
+      all_more l.loop-i.i (next_above s.b.now s.at) l.loop-i.invariant.2 (sym (above (goal.at.loop-i-preserved e).After-word_above) ∙ e.if-not-word_above.false),
+      all_more l.loop-i.i (positive s.b.now (s.at + s.l)) l.loop-i.invariant.3 (sym f.word_above-in-loop-i.ensures ∙ f.if-not-word_above-2.false),
       rw (sum_step l.loop-i.i (λ (k : ℕ). nat_abs (word s.b.now (s.at + s.l + k))), l.loop-i.invariant.4, c.size_at-sum.ensures.is),
       omega (arith, c.size_at-sum.ensures.small),
     )

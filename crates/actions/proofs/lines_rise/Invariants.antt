@@ -22,7 +22,7 @@ positive b at k = lt_z (pos 0) (word b (at + k))
 abbrev pub invariant-loop-i : goal.invariant-loop-i
 invariant-loop-i l =
     (l.i ≤ l.r)
-    × (to_z w32 l.before ≡ prev_at l.b l.at l.i)
+    × (l.before ≡ prev_at l.b l.at l.i)
     × (all l.i (next_above l.b l.at) ≡ true)
     × (all l.i (positive l.b (l.at + l.l)) ≡ true)
     × (l.sum ≡ sum_to l.i (λ (k : ℕ). nat_abs (word l.b (l.at + l.l + k))))

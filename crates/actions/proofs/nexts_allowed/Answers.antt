@@ -7,7 +7,7 @@ use mir.Syntax.{w32}
 use mir.Val.{to_z}
 use Rattle.model.specs.Lists.{all}
 use Rattle.questions.specs.Ranges.{and_right, all_fails, all_more}
-use Rattle.book.proofs.Words.{no, yes', read32}
+use Rattle.book.proofs.Words.{read32}
 use Rattle.actions.specs.Action.{prev_at, next_above, next_allowed}
 use Rattle.actions.proofs.Steps.{prev_step}
 use Rattle.actions.proofs.nexts_allowed.Goals as goal
@@ -27,7 +27,7 @@ pub returns-then-not-word_above : goal.returns-then-not-word_above
 returns-then-not-word_above c =
     let l = c in
     let s = l.args in
-    sym (all_fails s.r (next_allowed s.b.now s.at s.width) l.loop-i.i (omega arith) (rw (no (above (goal.at.returns-then-not-word_above c).After-word_above) c.if-not-word_above.true-raw)))
+    sym (all_fails s.r (next_allowed s.b.now s.at s.width) l.loop-i.i (omega arith) (rw (sym (above (goal.at.returns-then-not-word_above c).After-word_above) ∙ c.if-not-word_above.true)))
 
 pub returns-then-not-word_below : goal.returns-then-not-word_below
 returns-then-not-word_below c =
@@ -35,7 +35,7 @@ returns-then-not-word_below c =
     let s = l.args in
     sym
     (all_fails s.r (next_allowed s.b.now s.at s.width) l.loop-i.i (omega arith)
-    (rw (no c.word_below.ensures c.if-not-word_below.true-raw) (and_right (next_above s.b.now s.at l.loop-i.i))))
+    (rw (sym c.word_below.ensures ∙ c.if-not-word_below.true) (and_right (next_above s.b.now s.at l.loop-i.i))))
 
 pub loop-i-preserved : goal.loop-i-preserved
 loop-i-preserved c =
@@ -44,9 +44,9 @@ loop-i-preserved c =
     let l = e in
     let s = l.args in (
       omega arith,
-      read32 c.word_at-prev.result c.word_at-prev.type-inv ∙ c.word_at-prev.ensures ∙ sym (prev_step s.b.now s.at l.loop-i.i),
+      read32 c.word_at-prev.result c.word_at-prev.type_inv ∙ c.word_at-prev.ensures ∙ sym (prev_step s.b.now s.at l.loop-i.i),
       all_more l.loop-i.i (next_allowed s.b.now s.at s.width) l.loop-i.invariant.2
-          (rw (yes' (above (goal.at.loop-i-preserved e).After-word_above) e.if-not-word_above.false-raw, yes' f.word_below.ensures f.if-not-word_below.false-raw)),
+          (rw (sym (above (goal.at.loop-i-preserved e).After-word_above) ∙ e.if-not-word_above.false, sym f.word_below.ensures ∙ f.if-not-word_below.false)),
     )
 
 pub returns : goal.returns

@@ -14,7 +14,7 @@ use Rattle.actions.proofs.Steps.{prev_step}
 use Rattle.actions.proofs.nexts_allowed.Given as goal
 
 abbrev pub invariant-loop-i : goal.invariant-loop-i
-invariant-loop-i l = (l.i ≤ l.r) × (to_z w32 l.prev ≡ prev_at l.b l.at l.i) × (all l.i (next_allowed l.b l.at l.width) ≡ true)
+invariant-loop-i l = (l.i ≤ l.r) × (l.prev ≡ prev_at l.b l.at l.i) × (all l.i (next_allowed l.b l.at l.width) ≡ true)
 
 abbrev pub decreases-loop-i : goal.decreases-loop-i
 decreases-loop-i l = l.r - l.i
