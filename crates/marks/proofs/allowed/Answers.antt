@@ -1,6 +1,6 @@
 -- The length, the values, m.
 -- Assumes nothing.
-use mathlib.Core.Path.{◌≡◌}
+use mathlib.Core.Path.{◌≡◌, sym, ◌∙◌}
 use mathlib.Core.Bool.{true, false}
 use mathlib.Core.List.{List}
 use Prim.Native.Nat.{ℕ}
@@ -11,7 +11,6 @@ use lib.ListN.{length}
 use Rattle.model.specs.Lists.{every}
 use Rattle.model.specs.Model.{Words, state_count}
 use Rattle.model.specs.Limit.{limit_of, first_mark, is_mark, limit_allowed}
-use Rattle.book.proofs.Words.{no, yes'}
 use Rattle.marks.proofs.allowed.Goals as goal
 
 module _ (ws : Words) (marks : List ℕ) (m : ℕ) where
@@ -34,12 +33,8 @@ returns-then-marks-n c =
 
 pub returns-then-not-all_marks : goal.returns-then-not-all_marks
 returns-then-not-all_marks c =
-    let a = c in
-    let e = a in
-    other_value _ _ _ (omega (arith, e.if-marks-n.false, e.action_total-n.ensures)) (no a.all_marks.ensures c.if-not-all_marks.true-raw)
+    other_value _ _ _ (omega (arith, c.if-marks-n.false, c.action_total-n.ensures)) (sym c.all_marks.ensures ∙ c.if-not-all_marks.true)
 
 pub returns : goal.returns
 returns c =
-    let a = c in
-    let e = a in
-    by_most _ _ _ (omega (arith, e.if-marks-n.false, e.action_total-n.ensures)) (yes' a.all_marks.ensures c.if-not-all_marks.false-raw)
+    by_most _ _ _ (omega (arith, c.if-marks-n.false, c.action_total-n.ensures)) (sym c.all_marks.ensures ∙ c.if-not-all_marks.false)

@@ -11,6 +11,7 @@ use Rattle.lines.proofs.Steps.{one_done, all_done}
 use Rattle.path_sums.specs.Most.{most_next}
 use Rattle.marks.specs.Marks.{number_at}
 use Rattle.marks.proofs.most_next.Goals as goal
+use Rattle.marks.proofs.most_next.Goals.{then-most-y, else-most-y}
 
 pub loop-i-init : goal.loop-i-init
 loop-i-init c = (omega arith, omega arith)
@@ -47,7 +48,7 @@ module _ (c : goal.Joined-most-y) where
       (one_done s.requires.0 l.loop-i.i n.loop-i-test.true n.next-next.result (transition s.args.b.now s.args.p s.args.c l.loop-i.i).weight n.next-next.ensures.is refl)
 
   larger : c.if-most-y.most ≡ max l.loop-i.most (u n.next-next.result)
-  larger = ⊎_elim (λ w. omega (arith, w.0.true, w.1)) (λ w. omega (arith, w.0.left, w.1)) c.if-most-y.branch
+  larger = elim c.if-most-y.branch [ then-most-y w ↦ omega arith | else-most-y w ↦ omega arith ]
 
 pub loop-i-preserved : goal.loop-i-preserved
 loop-i-preserved c = (omega arith, omega (arith, (l c).loop-i.invariant.1, front c, larger c))
