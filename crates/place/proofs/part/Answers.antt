@@ -8,16 +8,15 @@ use lib.ListN.{length, take, drop}
 use Rattle.place.specs.declared.Place.{Place}
 use Rattle.place.specs.Place.{browsed, place_in}
 use Rattle.place.proofs.part.Goals as goal
-use Rattle.place.proofs.part.Goals.{After-locate-p}
-
-inside : (c : goal.After-locate-p) → c.locate-p.result.from + c.locate-p.result.size ≤ length c.args.r.now
-inside c = let a = c.args in rw c.locate-p.ensures (place_in a.r.now a.s a.k a.j)
 
 pub overflow_add-to : goal.overflow_add-to
-overflow_add-to c = omega (arith, inside (goal.at.overflow_add-to c).After-locate-p)
+overflow_add-to c =
+    let a = c.args in
+    let inside : c.locate-p.result.from + c.locate-p.result.size ≤ length a.r.now = rw c.locate-p.ensures (place_in a.r.now a.s a.k a.j) in
+    omega arith
 
 pub slice_bounds-result-end : goal.slice_bounds-result-end
-slice_bounds-result-end c = inside (goal.at.slice_bounds-result-end c).After-locate-p
+slice_bounds-result-end c = let a = c.args in rw c.locate-p.ensures (place_in a.r.now a.s a.k a.j)
 
 pub returns : goal.returns
 unfolding browsed
