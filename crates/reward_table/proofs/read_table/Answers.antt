@@ -1,7 +1,7 @@
 -- Each size is the word of its place; the columns begin after the choice counts.
 -- Assumes nothing.
 use mathlib.Core.Path.{ap}
-use Prim.Native.Nat.{◌+◌, ◌-◌}
+use Prim.Native.Nat.{◌+◌}
 use Rattle.reward_table.specs.Table.{table_scale, table_horizon, table_states, table_first, table_lines}
 use Rattle.reward_table.proofs.read_table.Goals as goal
 

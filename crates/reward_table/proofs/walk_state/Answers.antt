@@ -1,12 +1,10 @@
 -- Assumes nothing.
 use mathlib.Core.Path.{◌≡◌, refl, sym, ap, ◌∙◌}
 use mathlib.Core.Bool.{true}
-use Prim.Native.Nat.{ℕ, ◌+◌, ◌-◌, ◌≤◌, ◌<◌}
+use Prim.Native.Nat.{ℕ, ◌+◌, ◌≤◌, ◌<◌}
 use native.Mathlib.Omega.{arith}
 use lib.ListN.{length}
-use Rattle.model.specs.Lists.{all}
 use Rattle.questions.specs.Ranges.{all_fails, all_more}
-use Rattle.book.proofs.Words.{no, yes'}
 use Rattle.reward_table.specs.Table.{table_count, table_branches, table_after, table_action_line}
 use Rattle.reward_table.specs.Read.{entry_given, state_given}
 use Rattle.reward_table.specs.Says.{after_is, entry_says, action_line_lem, action-first, state_line_lem}
@@ -27,7 +25,7 @@ module _ (c : goal.Else-not-entry_given) where
   start = c
 
   asked : entry_given start.args.t.now l.loop-c.at ≡ true
-  asked = yes' c.entry_given.ensures c.if-not-entry_given.false-raw
+  asked = sym c.entry_given.ensures ∙ c.if-not-entry_given.false
 
   fit : l.loop-c.at + 1 + table_branches start.args.t.now l.loop-c.at ≤ 2048
   fit =
@@ -58,7 +56,7 @@ returns-then-not-entry_given c =
           sym
           (all_fails (table_count ws s.args.s) (λ (k : ℕ). entry_given ws (table_action_line ws s.args.s k)) l.loop-c.c
           (omega (arith, count_is (goal.at.returns-then-not-entry_given l).After-size_at-count))
-          (ap (entry_given ws) (sym l.loop-c.invariant.1) ∙ no c.entry_given.ensures c.if-not-entry_given.true-raw));
+          (ap (entry_given ws) (sym l.loop-c.invariant.1) ∙ sym c.entry_given.ensures ∙ c.if-not-entry_given.true));
       at-is = λ e. let z : ◌≡◌ {A = ℕ} 0 1 = cc in absurd (omega arith);
       small = omega arith;
     }

@@ -1,12 +1,10 @@
 -- Assumes nothing.
 use mathlib.Core.Path.{◌≡◌, refl, sym, ◌∙◌}
 use mathlib.Core.Bool.{true}
-use Prim.Native.Nat.{ℕ, ◌-◌, ◌≤◌}
+use Prim.Native.Nat.{ℕ}
 use native.Mathlib.Omega.{arith}
-use Rattle.model.specs.Lists.{all}
 use Rattle.questions.specs.Ranges.{all_fails, all_more}
 use borrow.Author.Tests.{not-true, not-false}
-use Rattle.reward_table.specs.Table.{table_state_line}
 use Rattle.reward_table.specs.Read.{state_given, states_given}
 use Rattle.reward_table.specs.Says.{line_zero}
 use Rattle.reward_table.proofs.walk_to.Goals as goal

@@ -1,13 +1,12 @@
 -- Assumes nothing.
 use mathlib.Core.Path.{◌≡◌, refl, sym, ap₂, ◌∙◌}
-use Prim.Native.Nat.{ℕ, ◌+◌, ◌*◌, ◌-◌, ◌≤◌}
+use Prim.Native.Nat.{ℕ, ◌+◌}
 use native.Mathlib.Omega.{arith}
-use lib.IntN.{ℤ, nat_abs, ◌+ℤ◌}
+use lib.IntN.{ℤ, ◌+ℤ◌}
 use mir.Syntax.{w64}
 use mir.Val.{to_z, of_z}
 use mir.Facts.{to_z-of_z}
 use Rattle.model.specs.Model.{word}
-use Rattle.reward_table.specs.Table.{sum_z}
 use Rattle.reward_table.proofs.Facts.{sum_more}
 use Rattle.laws.specs.Int.{abs_add}
 use Rattle.book.proofs.Words.{read32, abs_mag}
@@ -21,16 +20,13 @@ add-sum-requires c = omega (arith, c.loop-i.invariant.2)
 
 pub loop-i-preserved : goal.loop-i-preserved
 loop-i-preserved c =
-    let w = c in
-    let l = w in
-    let s = l.args in
-    let f : ℕ → ℤ = λ (k : ℕ). word s.t.now (s.at + k) in
-    let x = w.word_at.result in
-    let e = rw (read32 x w.word_at.type-inv) at c.add-sum.ensures in
-    let m : to_z w64 (of_z w64 c.add-sum.result) ≡ c.add-sum.result = to_z-of_z (record { sfits = c.add-sum.type-inv }) in (
+    let f : ℕ → ℤ = λ (k : ℕ). word c.args.t.now (c.args.at + k) in
+    let x = c.word_at.result in
+    let e = rw (read32 x c.word_at.type_inv) at c.add-sum.ensures in
+    let m : to_z w64 (of_z w64 c.add-sum.result) ≡ c.add-sum.result = to_z-of_z {w = w64} (record { sfits = c.add-sum.type_inv }) in (
       omega arith,
-      m ∙ e ∙ ap₂ ◌+ℤ◌ l.loop-i.invariant.1 w.word_at.ensures ∙ sym (sum_more l.loop-i.i f),
-      rw (m, e) (omega (arith, abs_add (to_z w64 l.loop-i.sum-bits) x, abs_mag x, w.word_at.type-inv, l.loop-i.invariant.2)),
+      m ∙ e ∙ ap₂ ◌+ℤ◌ c.loop-i.invariant.1 c.word_at.ensures ∙ sym (sum_more c.loop-i.i f),
+      rw (m, e) (omega (arith, abs_add (to_z w64 c.loop-i.sum-bits) x, abs_mag x, c.word_at.type_inv, c.loop-i.invariant.2)),
     )
 
 pub returns : goal.returns
