@@ -1,7 +1,6 @@
 -- Each return carries the first question that is answered no.
 -- Assumes nothing.
 use mathlib.Core.Path.{sym, ◌∙◌}
-use Rattle.book.proofs.Words.{no, yes'}
 use Rattle.asked.specs.Asked.{Counted, counted_says, counted_stops, asked-none, asked_passed}
 use Rattle.asked.proofs.asked_number.Goals as goal
 use Rattle.asked.proofs.asked_number.Goals.{Else-no-ne0}
@@ -16,9 +15,9 @@ pub has_policy-requires : goal.has_policy-requires
 has_policy-requires c = (good c).ok
 
 pub returns-then-not-has_policy : goal.returns-then-not-has_policy
-returns-then-not-has_policy c = sym (asked-none _ _ (good (goal.at.returns-then-not-has_policy c).Else-no-ne0) (no c.has_policy.ensures c.if-not-has_policy.true-raw))
+returns-then-not-has_policy c = sym (asked-none _ _ (good (goal.at.returns-then-not-has_policy c).Else-no-ne0) (sym c.has_policy.ensures ∙ c.if-not-has_policy.true))
 
 pub returns : goal.returns
 returns c =
     let g = good (goal.at.returns c).Else-no-ne0 in
-    sym (asked_passed _ _ (record { ok = g.ok; low = g.low; high = g.high; has = yes' c.has_policy.ensures c.if-not-has_policy.false-raw }))
+    sym (asked_passed _ _ (record { ok = g.ok; low = g.low; high = g.high; has = sym c.has_policy.ensures ∙ c.if-not-has_policy.false }))

@@ -1,11 +1,9 @@
 -- Assumes nothing.
-use mathlib.Core.Path.{◌≡◌, sym, subst}
-use mathlib.Core.Logic.{⊎_elim}
+use mathlib.Core.Path.{◌≡◌, sym, ◌∙◌, subst}
 use Prim.Native.Nat.{◌+◌, ◌-◌, ◌≤◌, ◌<◌}
 use native.Mathlib.Omega.{arith}
 use Rattle.model.specs.Model.{Words, action_count, action_line}
 use Rattle.accepted.specs.Options.{Feasible, to_option}
-use Rattle.book.proofs.Words.{no, yes'}
 use Rattle.index.specs.Index.{ActionAt}
 use Rattle.index.proofs.Lines.{entered}
 use Rattle.costs.proofs.Sums.{read64}
@@ -13,7 +11,7 @@ use Rattle.table.specs.Table.{FilledTo}
 use Rattle.feasible.proofs.Leaves.{off_none, on_feasible}
 use Rattle.table.proofs.Rows.{filled_none, filled_more, filled_skip}
 use Rattle.table.proofs.fill_row.Goals as goal
-use Rattle.table.proofs.fill_row.Goals.{After-count-n, In-loop-c, Then-not-has8}
+use Rattle.table.proofs.fill_row.Goals.{After-count-n, In-loop-c, Then-not-has8, then-not-has8, else-not-has8}
 
 state : (c : goal.After-count-n) → c.args.p < 64
 state c = let s = c in (entered s.requires.0 s.args.p s.requires.1).small
@@ -54,7 +52,7 @@ module _ (t : goal.In-loop-c) where
 goes_on : (c : goal.Then-not-has8) → let t = (goal.at.of_line-a-requires c).In-loop-c in Feasible (ws t) (s t).args.p (l t).loop-c.c
 goes_on c =
     let t = (goal.at.of_line-a-requires c).In-loop-c in
-    on_feasible (ws t) (s t).args.p (s t).args.off (l t).loop-c.c (s t).requires.2 (here t).action (no c.has8.ensures c.if-not-has8.true-raw)
+    on_feasible (ws t) (s t).args.p (s t).args.off (l t).loop-c.c (s t).requires.2 (here t).action (sym c.has8.ensures ∙ c.if-not-has8.true)
 
 pub of_line-a-requires : goal.of_line-a-requires
 of_line-a-requires c = let t = (goal.at.of_line-a-requires c).In-loop-c in ((s t).requires.0, here t)
@@ -82,14 +80,16 @@ loop-c-preserved c =
       omega arith,
       i.invariant.1,
       i.invariant.2,
-      ⊎_elim
-          (λ w. subst (FilledTo (ws t) p (i.c + 1) (s t).args.v.now (s t).args.q.now) (sym w.3)
-          (rw (read64 w.2.result w.2.ok)
-          (filled_more (ws t) p i.c (s t).args.v.now (s t).args.q.now i.q w.2.result i.invariant.1 (omega arith) i.invariant.3 w.2.ensures)))
-          (λ w. subst (FilledTo (ws t) p (i.c + 1) (s t).args.v.now (s t).args.q.now) (sym w.1)
-          (filled_skip (ws t) p i.c (s t).args.v.now (s t).args.q.now i.q i.invariant.3
-          (off_none (ws t) p (s t).args.off i.c (s t).requires.2 (here t).action (yes' a.has8.ensures w.0.left))))
-          a.if-not-has8.branch,
+      elim a.if-not-has8.branch [
+          then-not-has8 w ↦
+              subst (FilledTo (ws t) p (i.c + 1) (s t).args.v.now (s t).args.q.now) (sym w.q-is)
+              (rw (read64 w.action_cost-y.result w.action_cost-y.type_inv)
+              (filled_more (ws t) p i.c (s t).args.v.now (s t).args.q.now i.q w.action_cost-y.result i.invariant.1 (omega arith) i.invariant.3 w.action_cost-y.ensures))
+          | else-not-has8 w ↦
+              subst (FilledTo (ws t) p (i.c + 1) (s t).args.v.now (s t).args.q.now) (sym w.q-is)
+              (filled_skip (ws t) p i.c (s t).args.v.now (s t).args.q.now i.q i.invariant.3
+              (off_none (ws t) p (s t).args.off i.c (s t).requires.2 (here t).action (sym a.has8.ensures ∙ w.if-not-has8.false)))
+      ],
       c.line_after-j.ensures,
     )
 

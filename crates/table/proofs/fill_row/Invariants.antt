@@ -1,12 +1,10 @@
 -- The entries of the feasible ones of the first c actions are filled, and j is the first line of action c.
 -- Assumes nothing.
 use mathlib.Core.Path.{◌≡◌, sym, subst}
-use mathlib.Core.Logic.{⊎_elim}
 use Prim.Native.Nat.{◌+◌, ◌-◌, ◌≤◌, ◌<◌}
 use native.Mathlib.Omega.{arith}
 use Rattle.model.specs.Model.{Words, action_count, action_line}
 use Rattle.accepted.specs.Options.{Feasible, to_option}
-use Rattle.book.proofs.Words.{no, yes'}
 use Rattle.index.specs.Index.{ActionAt}
 use Rattle.index.proofs.Lines.{entered}
 use Rattle.costs.proofs.Sums.{read64}

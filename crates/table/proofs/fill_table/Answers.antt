@@ -77,7 +77,7 @@ module _ (k : goal.After-best_action-best) where
   off = get_or s.args.off.now p 0
 
   abbrev row : List ℤ
-  row = f.fill_row.last.1.1.1.1.1.0
+  row = f.fill_row.new.q
 
   ok : book_number ws ≡ 0
   ok = s.requires.0.checked.ok
@@ -101,7 +101,7 @@ pub loop-p-preserved-then-best-lt8 : goal.loop-p-preserved-then-best-lt8
 loop-p-preserved-then-best-lt8 c =
     let k = (goal.at.loop-p-preserved-then-best-lt8 c).After-best_action-best in
     let y = c.entry-y in
-    rw (read64 y.result y.type-inv) (
+    rw (read64 y.result y.type_inv) (
       (l k).loop-p.invariant.0,
       omega arith,
       table_more (ws k) (ok k) (p k) (state k) (l k).loop-p.q (l k).loop-p.v (row k) (later k) (f k).fill_row.ensures y.result
