@@ -1,9 +1,7 @@
 -- Assumes nothing.
-use Prim.Native.Nat.{◌+◌, ◌-◌, ◌≤◌}
-use mathlib.Core.Path.{◌≡◌, sym, subst}
+use Prim.Native.Nat.{◌+◌}
+use mathlib.Core.Path.{sym, subst}
 use native.Mathlib.Omega.{arith}
-use lib.ListN.{length}
-use Rattle.model.specs.Model.{state_count}
 use Rattle.accepted.specs.Facts.{accepted}
 use Rattle.accepted.specs.Bytes.{policy_long}
 use Rattle.reach.proofs.Pass.{Passed, begin, byte-action, room, pass_action, pass_none, finish}
@@ -44,10 +42,10 @@ loop-p-preserved c =
       omega arith,
       i.invariant.2,
       elim c.if-c-ne255.branch [
-        then-c-ne255 k ↦
+        | then-c-ne255 k ↦
             subst (Passed ws bs (i.p + 1)) (sym k.w-is)
             (pass_action ws s.requires.0.checked.ok bs s.requires.1 i.p (omega arith) i.w i.invariant.3 _ k.spread_action.ensures)
-      | else-c-ne255 k ↦
+        | else-c-ne255 k ↦
             subst (Passed ws bs (i.p + 1)) (sym k.w-is)
             (pass_none ws s.requires.0.checked.ok bs s.requires.1 i.p (omega arith) i.w i.invariant.3 k.if-c-ne255.false)
       ],

@@ -1,13 +1,10 @@
 -- The array has the weights before the pass comes to state p.
 -- Assumes nothing.
-use Prim.Native.Nat.{◌+◌, ◌-◌, ◌≤◌}
-use mathlib.Core.Path.{◌≡◌, sym, subst}
-use native.Mathlib.Omega.{arith}
+use Prim.Native.Nat.{◌-◌, ◌≤◌}
+use mathlib.Core.Path.{◌≡◌}
 use lib.ListN.{length}
 use Rattle.model.specs.Model.{state_count}
-use Rattle.accepted.specs.Facts.{accepted}
-use Rattle.accepted.specs.Bytes.{policy_long}
-use Rattle.reach.proofs.Pass.{Passed, begin, byte-action, room, pass_action, pass_none, finish}
+use Rattle.reach.proofs.Pass.{Passed}
 use Rattle.reach.proofs.reach_weights.Given as goal
 
 abbrev pub invariant-loop-p : goal.invariant-loop-p

@@ -1,14 +1,12 @@
 -- Assumes nothing.
 use mathlib.Core.Path.{◌≡◌, refl}
 use mathlib.Core.List.{◌∷◌}
-use Prim.Native.Nat.{ℕ, ◌+◌, ◌*◌, ◌-◌, ◌≤◌}
+use Prim.Native.Nat.{ℕ, ◌+◌, ◌*◌, ◌≤◌}
 use native.Mathlib.Omega.{arith}
 use lib.ListN.{drop, get_or}
 use Rattle.model.specs.Model.{action}
-use Rattle.splits.specs.Reach.{spread}
 use Rattle.lines.proofs.Steps.{one_done, all_done}
-use Rattle.reach.specs.Weights.{weight_at}
-use Rattle.reach.proofs.Spreading.{ToSpread, sum_small, one_spread, all-spread}
+use Rattle.reach.proofs.Spreading.{sum_small, one_spread, all-spread}
 use Rattle.reach.proofs.spread_lines.Goals as goal
 use Rattle.reach.proofs.spread_lines.Goals.{After-weight-weight}
 

@@ -1,15 +1,11 @@
 -- y is spread over the first i transitions.
 -- Assumes nothing.
-use mathlib.Core.Path.{◌≡◌, refl}
-use mathlib.Core.List.{◌∷◌}
-use Prim.Native.Nat.{ℕ, ◌+◌, ◌*◌, ◌-◌, ◌≤◌}
-use native.Mathlib.Omega.{arith}
-use lib.ListN.{drop, get_or}
+use Prim.Native.Nat.{◌-◌, ◌≤◌}
+use lib.ListN.{drop}
 use Rattle.model.specs.Model.{action}
 use Rattle.splits.specs.Reach.{spread}
-use Rattle.lines.proofs.Steps.{one_done, all_done}
 use Rattle.reach.specs.Weights.{weight_at}
-use Rattle.reach.proofs.Spreading.{ToSpread, sum_small, one_spread, all-spread}
+use Rattle.reach.proofs.Spreading.{ToSpread}
 use Rattle.reach.proofs.spread_lines.Given as goal
 
 abbrev pub invariant-loop-i : goal.invariant-loop-i
