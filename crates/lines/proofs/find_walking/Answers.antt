@@ -1,7 +1,5 @@
 -- Assumes nothing.
 use mathlib.Core.Path.{◌≡◌, ap, ◌∙◌}
-use mathlib.Core.Logic.{⊎_elim}
-use Prim.Native.Nat.{◌-◌, ◌≤◌, ◌<◌}
 use native.Mathlib.Omega.{arith}
 use Rattle.model.specs.Model.{action_count}
 use Rattle.lines.specs.Lines.{word_of}
@@ -28,7 +26,7 @@ loop-d-preserved c =
       omega (arith, l.count-n.ensures),
       c.word_after-k.ensures,
       λ h. elim c.if-d-c.branch [
-        then-d-c w ↦ w.at-is ∙ l.loop-d.invariant.1 ∙ ap (word_of s.args.b.now s.args.p) w.if-d-c.true
+        | then-d-c w ↦ w.at-is ∙ l.loop-d.invariant.1 ∙ ap (word_of s.args.b.now s.args.p) w.if-d-c.true
         | else-d-c w ↦ w.at-is ∙ l.loop-d.invariant.2 (omega (arith, w.if-d-c.false))
       ],
     )

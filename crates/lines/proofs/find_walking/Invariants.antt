@@ -1,12 +1,9 @@
 -- The walk has come to action d; if it has passed action c, it has kept where that begins.
 -- Assumes nothing.
-use mathlib.Core.Path.{◌≡◌, ap, ◌∙◌}
-use mathlib.Core.Logic.{⊎_elim}
+use mathlib.Core.Path.{◌≡◌}
 use Prim.Native.Nat.{◌-◌, ◌≤◌, ◌<◌}
-use native.Mathlib.Omega.{arith}
 use Rattle.model.specs.Model.{action_count}
 use Rattle.lines.specs.Lines.{word_of}
-use Rattle.lines.proofs.Places.{state_after}
 use Rattle.lines.proofs.find_walking.Given as goal
 
 abbrev pub invariant-loop-d : goal.invariant-loop-d
