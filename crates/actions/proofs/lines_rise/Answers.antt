@@ -1,17 +1,13 @@
 -- Assumes nothing.
 use mathlib.Core.Path.{◌≡◌, refl, sym, ◌∙◌}
-use mathlib.Core.Bool.{Bool, true}
-use Prim.Native.Nat.{ℕ, ◌+◌, ◌*◌, ◌-◌, ◌≤◌}
+use Prim.Native.Nat.{ℕ, ◌+◌}
 use native.Mathlib.Omega.{arith}
-use lib.IntN.{pos, nat_abs}
-use lib.Signed.{lt_z}
-use mir.Syntax.{w32}
-use mir.Val.{to_z}
-use Rattle.model.specs.Lists.{all, sum_to}
-use Rattle.model.specs.Model.{Words, word}
+use lib.IntN.{nat_abs}
+use Rattle.model.specs.Lists.{all}
+use Rattle.model.specs.Model.{word}
 use Rattle.questions.specs.Ranges.{and_right, all_fails, all_more, sum_step}
 use Rattle.book.proofs.Words.{read32}
-use Rattle.actions.specs.Action.{prev_at, next_above}
+use Rattle.actions.specs.Action.{next_above}
 use Rattle.actions.proofs.Steps.{prev_step}
 use Rattle.actions.proofs.lines_rise.Invariants.{positive}
 use Rattle.actions.proofs.lines_rise.Goals as goal

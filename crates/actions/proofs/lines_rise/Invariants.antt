@@ -1,19 +1,13 @@
 -- The lines passed so far are allowed, sum is the sum of their weights, and before is the last next state.
 -- Assumes nothing.
-use mathlib.Core.Path.{◌≡◌, refl, sym, ◌∙◌}
+use mathlib.Core.Path.{◌≡◌}
 use mathlib.Core.Bool.{Bool, true}
 use Prim.Native.Nat.{ℕ, ◌+◌, ◌*◌, ◌-◌, ◌≤◌}
-use native.Mathlib.Omega.{arith}
 use lib.IntN.{pos, nat_abs}
 use lib.Signed.{lt_z}
-use mir.Syntax.{w32}
-use mir.Val.{to_z}
 use Rattle.model.specs.Lists.{all, sum_to}
 use Rattle.model.specs.Model.{Words, word}
-use Rattle.questions.specs.Ranges.{and_right, all_fails, all_more, sum_step}
-use Rattle.book.proofs.Words.{no, yes', read32}
 use Rattle.actions.specs.Action.{prev_at, next_above}
-use Rattle.actions.proofs.Steps.{prev_step}
 use Rattle.actions.proofs.lines_rise.Given as goal
 
 abbrev pub positive : Words → ℕ → ℕ → Bool

@@ -1,14 +1,9 @@
 -- Assumes nothing.
 use mathlib.Core.Path.{◌≡◌, refl, sym, ◌∙◌}
-use mathlib.Core.Bool.{true}
-use Prim.Native.Nat.{◌-◌, ◌≤◌}
 use native.Mathlib.Omega.{arith}
-use mir.Syntax.{w32}
-use mir.Val.{to_z}
-use Rattle.model.specs.Lists.{all}
 use Rattle.questions.specs.Ranges.{and_right, all_fails, all_more}
 use Rattle.book.proofs.Words.{read32}
-use Rattle.actions.specs.Action.{prev_at, next_above, next_allowed}
+use Rattle.actions.specs.Action.{next_above, next_allowed}
 use Rattle.actions.proofs.Steps.{prev_step}
 use Rattle.actions.proofs.nexts_allowed.Goals as goal
 use Rattle.actions.proofs.nexts_allowed.Goals.{After-word_above}

@@ -1,16 +1,10 @@
 -- The transitions passed so far are allowed, and prev is the last next state.
 -- Assumes nothing.
-use mathlib.Core.Path.{◌≡◌, refl, sym, ◌∙◌}
+use mathlib.Core.Path.{◌≡◌}
 use mathlib.Core.Bool.{true}
 use Prim.Native.Nat.{◌-◌, ◌≤◌}
-use native.Mathlib.Omega.{arith}
-use mir.Syntax.{w32}
-use mir.Val.{to_z}
 use Rattle.model.specs.Lists.{all}
-use Rattle.questions.specs.Ranges.{and_right, all_fails, all_more}
-use Rattle.book.proofs.Words.{no, yes', read32}
-use Rattle.actions.specs.Action.{prev_at, next_above, next_allowed}
-use Rattle.actions.proofs.Steps.{prev_step}
+use Rattle.actions.specs.Action.{prev_at, next_allowed}
 use Rattle.actions.proofs.nexts_allowed.Given as goal
 
 abbrev pub invariant-loop-i : goal.invariant-loop-i
