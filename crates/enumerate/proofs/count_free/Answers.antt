@@ -1,13 +1,12 @@
 -- Assumes nothing.
-use mathlib.Core.Path.{◌≡◌, sym, ap}
-use mathlib.Core.Logic.{⊎_elim}
+use mathlib.Core.Path.{◌≡◌, sym, ap, ◌∙◌}
 use Prim.Native.Nat.{◌+◌, ◌-◌, ◌≤◌}
 use native.Mathlib.Nat.{sub-zero}
 use native.Mathlib.Omega.{arith}
 use lib.ListN.{length}
-use Rattle.book.proofs.Words.{no, yes'}
 use Rattle.enumerate.proofs.Free.{free_from, none_left, free_more, free-later}
 use Rattle.enumerate.proofs.count_free.Goals as goal
+use Rattle.enumerate.proofs.count_free.Goals.{then-not-has8, else-not-has8}
 
 pub loop-c-init : goal.loop-c-init
 loop-c-init c = (omega arith, omega arith, omega arith)
@@ -23,24 +22,21 @@ loop-c-smaller c = omega (arith, c.loop-c-test.true)
 
 pub loop-c-preserved : goal.loop-c-preserved
 loop-c-preserved c =
-    let t = c in
-    let l = t in
-    let i = l.loop-c.invariant in
-    let mask = l.args.mask in
-    let n = l.args.n in
-    let h = t.loop-c-test.true in
-    ⊎_elim
-    (λ u. (
-      omega (arith, h),
-      omega (arith, i.1, u.1),
-      omega (arith, i.2, u.1, ap length (free_more mask l.loop-c.c n h (no c.has8.ensures u.0.true))),
-    ))
-    (λ u. (
-      omega (arith, h),
-      omega (arith, i.1, u.1),
-      omega (arith, i.2, u.1, ap length (free-later mask l.loop-c.c n h (yes' c.has8.ensures u.0.left))),
-    ))
-    c.if-not-has8.branch
+    let mask = c.args.mask in
+    let n = c.args.n in
+    let h = c.loop-c-test.true in
+    elim c.if-not-has8.branch [
+      then-not-has8 u ↦ (
+        omega arith,
+        omega (arith, u.found-is),
+        omega (arith, u.found-is, ap length (free_more mask c.loop-c.c n h (sym c.has8.ensures ∙ u.if-not-has8.true))),
+      )
+      | else-not-has8 u ↦ (
+        omega arith,
+        omega (arith, u.found-is),
+        omega (arith, u.found-is, ap length (free-later mask c.loop-c.c n h (sym c.has8.ensures ∙ u.if-not-has8.false))),
+      )
+    ]
 
 pub returns : goal.returns
 returns c =

@@ -56,7 +56,7 @@ returns-then-not-next c =
     let f = c in
     let l = (goal.at.returns-then-not-next f).At-loop-n in
     let ws = (s l).args.b.now in
-    let e = last_at ws (s l).requires.0.checked.ok (s l).requires.2 (l.loop-n.n - 1) l.loop-n.plan l.loop-n.invariant.at _ _ _ f.next.ensures (not-true _ c.if-not-next.true-raw) in
+    let e = last_at ws (s l).requires.0.checked.ok (s l).requires.2 (l.loop-n.n - 1) l.loop-n.plan l.loop-n.invariant.at _ _ _ f.next.ensures c.if-not-next.true in
     record { all = λ h. omega (arith, e, l.loop-n.invariant.low); more = λ h. omega (arith, e, l.loop-n.invariant.low) }
 
 pub overflow_add-n : goal.overflow_add-n
@@ -74,8 +74,8 @@ loop-n-preserved c =
     record {
       low = omega arith;
       high = omega (arith, f.loop-n-test.true);
-      stands = f.next.ensures.stands (not-false _ c.if-not-next.false-raw);
-      at = rw e (next_at_lem ws (s l).requires.0.checked.ok (s l).requires.2 (l.loop-n.n - 1) l.loop-n.plan l.loop-n.invariant.at _ _ _ f.next.ensures (not-false _ c.if-not-next.false-raw));
+      stands = f.next.ensures.stands c.if-not-next.false;
+      at = rw e (next_at_lem ws (s l).requires.0.checked.ok (s l).requires.2 (l.loop-n.n - 1) l.loop-n.plan l.loop-n.invariant.at _ _ _ f.next.ensures c.if-not-next.false);
     }
 
 pub shape_of-plan : goal.shape_of-plan

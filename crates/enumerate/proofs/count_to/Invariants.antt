@@ -16,10 +16,10 @@ use Rattle.enumerate.proofs.Places.{first_at, next_at_lem, last_at}
 use Rattle.enumerate.proofs.count_to.Given as goal
 
 pub record There (ws : Words) (most n : ℕ) (bs : Policy) (reach : List ℕ) : Type 0 where
-  low : 1 ≤ n
-  high : n ≤ most + 1
-  stands : Stands ws bs reach
-  at : get_elem? (policies ws) (n - 1) ≡ some bs
+  pub low : 1 ≤ n
+  pub high : n ≤ most + 1
+  pub stands : Stands ws bs reach
+  pub at : get_elem? (policies ws) (n - 1) ≡ some bs
 
 abbrev pub invariant-loop-n : goal.invariant-loop-n
 invariant-loop-n l = There l.b l.most l.n l.plan l.reach

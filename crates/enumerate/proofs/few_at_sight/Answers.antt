@@ -19,9 +19,6 @@ times-product-requires c =
     let s = l in
     (s.requires.0, s.requires.1, omega (arith, c.loop-p-test.true, s.requires.0.sizes.s_is), omega (arith, l.loop-p.invariant.1, s.requires.2))
 
-pub returns-then-most-product : goal.returns-then-most-product
-returns-then-most-product c = absurd (let z : ◌≡◌ {A = ℕ} 0 1 = cc in omega arith)
-
 pub overflow_add-p : goal.overflow_add-p
 overflow_add-p c =
     let t = c in

@@ -2,7 +2,6 @@
 use mathlib.Core.Path.{◌≡◌, refl, ap, sym, ◌∙◌}
 use Prim.Native.Nat.{◌-◌}
 use native.Mathlib.Omega.{arith}
-use Rattle.book.proofs.Words.{no, yes'}
 use Rattle.next_policy.specs.Next.{first_of}
 use Rattle.enumerate.proofs.Free.{free_from, none_left, free_here, free-later}
 use Rattle.enumerate.proofs.first_free.Goals as goal
@@ -15,14 +14,14 @@ returns-then-not-has8 c =
     let l = c in
     let s = l in
     sym (ap first_of l.loop-c.invariant
-    ∙ free_here s.args.mask l.loop-c.c s.args.n c.loop-c-test.true (no c.has8.ensures c.if-not-has8.true-raw))
+    ∙ free_here s.args.mask l.loop-c.c s.args.n c.loop-c-test.true (sym c.has8.ensures ∙ c.if-not-has8.true))
 
 pub loop-c-preserved : goal.loop-c-preserved
 loop-c-preserved c =
     let l = c in
     let s = l in
     l.loop-c.invariant
-    ∙ free-later s.args.mask l.loop-c.c s.args.n c.loop-c-test.true (yes' c.has8.ensures c.if-not-has8.false-raw)
+    ∙ free-later s.args.mask l.loop-c.c s.args.n c.loop-c-test.true (sym c.has8.ensures ∙ c.if-not-has8.false)
 
 pub returns : goal.returns
 returns c =

@@ -11,16 +11,10 @@ use Rattle.enumerate.proofs.Free.{free_from}
 use Rattle.enumerate.proofs.Raised.{higher_is}
 use Rattle.enumerate.proofs.higher_at.Goals as goal
 
-pub overflow_cast-c : goal.overflow_cast-c
-overflow_cast-c c = omega (arith, c.shared_slice_known-2-1.given c.args.p)
-
 pub bounds-off-p : goal.bounds-off-p
 bounds-off-p c =
     let s = c in
     omega (arith, s.requires.3, (accepted s.args.b.now s.requires.0.ok).sizes.s_high)
-
-pub overflow_add-c : goal.overflow_add-c
-overflow_add-c c = omega (arith, c.shared_slice_known-2-1.given c.args.p)
 
 pub first_free-requires : goal.first_free-requires
 first_free-requires c =

@@ -7,7 +7,6 @@ use native.Mathlib.Omega.{arith}
 use lib.ListN.{get_or}
 use Rattle.model.specs.Lists.{up_from}
 use Rattle.accepted.specs.Facts.{accepted}
-use Rattle.book.proofs.Words.{no, yes'}
 use Rattle.sets.specs.Sets.{free}
 use Rattle.next_policy.specs.Next.{first_of}
 use Rattle.enumerate.specs.Steps.{lowest_at}
@@ -23,7 +22,7 @@ has64-requires c = small c
 pub returns-then-not-has64 : goal.returns-then-not-has64
 returns-then-not-has64 c =
     let s = c in
-    sym (ap (lowest_at s.args.b.now s.args.p) (no c.has64.ensures c.if-not-has64.true-raw))
+    sym (ap (lowest_at s.args.b.now s.args.p) (sym c.has64.ensures ∙ c.if-not-has64.true))
 
 pub bounds-off-p : goal.bounds-off-p
 bounds-off-p c = small (goal.at.bounds-off-p c).Start
@@ -43,4 +42,4 @@ returns c =
     c.first_free.ensures
     ∙ ap (λ (m : ℕ). first_of (free (get_or s.args.off.now s.args.p 0) (up_from 0 (m - 0)))) n.count-n.ensures
     ∙ rw sub-zero (ap first_of (s.requires.1.leaves s.args.p s.requires.2))
-    ∙ sym (ap (lowest_at ws s.args.p) (yes' e.has64.ensures e.if-not-has64.false-raw))
+    ∙ sym (ap (lowest_at ws s.args.p) (sym e.has64.ensures ∙ e.if-not-has64.false))
