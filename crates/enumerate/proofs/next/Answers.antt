@@ -38,7 +38,7 @@ is_last ws bs r e (inr n) = absurd (e n.state_is)
 
 -- where a state has one
 last_is : (ws : Words) (bs : Policy) (r : Raise) (n : ℕ) → n ≡ state_count ws → (r.state ≡ n → ⊥) → RaiseIs ws bs r → Last ws bs r
-last_is ws bs r n e no i = is_last ws bs r (λ z. no (z ∙ sym e)) i
+last_is ws bs r n e other i = is_last ws bs r (λ z. other (z ∙ sym e)) i
 
 pub raise_of-up-requires : goal.raise_of-up-requires
 raise_of-up-requires c =
@@ -92,7 +92,11 @@ fill-requires c =
 
 -- the policy that is filled in
 pub shape_of-plan : goal.shape_of-plan
-shape_of-plan c = ?
+shape_of-plan c =
+    let last = last_is c.args.b.now c.args.plan.now c.raise_of-up.result c.args.z.s c.requires.0.checked.sizes.s_is c.if-p-s.false c.raise_of-up.ensures in
+    let n = next_stands c.args.b.now c.requires.0.checked.ok c.args.plan.now (bytes_long c.args.b.now c.requires.0.checked.ok c.args.plan.now c.requires.2.is) c.requires.2.is c.raise_of-up.result last c.args.reach.now _
+            c.requires.2.sets _ c.fill.ensures in
+    bytes_long c.args.b.now c.requires.0.checked.ok _ n.1.is ∙ sym (bytes_long c.args.b.now c.requires.0.checked.ok c.args.plan.now c.requires.2.is)
 
 pub returns : goal.returns
 returns c =
