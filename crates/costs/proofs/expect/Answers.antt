@@ -1,18 +1,15 @@
 -- Assumes nothing.
 use mathlib.Core.Path.{◌≡◌, refl, ◌∙◌}
 use mathlib.Core.List.{◌∷◌}
-use Prim.Native.Nat.{ℕ, ◌+◌, ◌-◌, ◌≤◌}
+use Prim.Native.Nat.{ℕ, ◌+◌}
 use native.Mathlib.Omega.{arith}
-use lib.IntN.{ℤ, ◌+ℤ◌}
+use lib.IntN.{ℤ}
 use lib.ListN.{drop}
-use mir.Syntax.{w64}
-use mir.Val.{to_z}
 use mir.Facts.{to_z-of_z}
 use Rattle.model.specs.Model.{action}
-use Rattle.model.specs.Recursion.{expected}
 use Rattle.lines.proofs.Steps.{one_done, all_done}
 use Rattle.costs.specs.Terms.{value_at}
-use Rattle.costs.proofs.Sums.{read64, Summed, one_small, one_summed, all_summed}
+use Rattle.costs.proofs.Sums.{read64, one_small, one_summed, all_summed}
 use Rattle.costs.proofs.expect.Goals as goal
 use Rattle.costs.proofs.expect.Goals.{After-mul_add-arg-1}
 

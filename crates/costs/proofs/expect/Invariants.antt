@@ -1,19 +1,12 @@
 -- What is expected of the transitions from i on is still to be added.
 -- Assumes nothing.
-use mathlib.Core.Path.{◌≡◌, refl, ◌∙◌}
-use mathlib.Core.List.{◌∷◌}
-use Prim.Native.Nat.{ℕ, ◌+◌, ◌-◌, ◌≤◌}
-use native.Mathlib.Omega.{arith}
-use lib.IntN.{ℤ, ◌+ℤ◌}
+use Prim.Native.Nat.{◌-◌, ◌≤◌}
+use lib.IntN.{◌+ℤ◌}
 use lib.ListN.{drop}
-use mir.Syntax.{w64}
-use mir.Val.{to_z}
-use mir.Facts.{to_z-of_z}
 use Rattle.model.specs.Model.{action}
 use Rattle.model.specs.Recursion.{expected}
-use Rattle.lines.proofs.Steps.{one_done, all_done}
 use Rattle.costs.specs.Terms.{value_at}
-use Rattle.costs.proofs.Sums.{read64, Summed, one_small, one_summed, all_summed}
+use Rattle.costs.proofs.Sums.{Summed}
 use Rattle.costs.proofs.expect.Given as goal
 
 abbrev pub invariant-loop-i : goal.invariant-loop-i
