@@ -15,7 +15,7 @@ use Rattle.filed_page.proofs.print_record.Goals as goal
 use Rattle.filed_page.proofs.print_record.Goals.{After-carried_length-w, Else-a-ne0}
 
 pub put_page-requires : goal.put_page-requires
-put_page-requires c κs z = absurd (c.if-a-ne0.true z)
+put_page-requires c z = absurd (c.if-a-ne0.true z)
 
 pub returns-then-a-ne0 : goal.returns-then-a-ne0
 unfolding record_page
@@ -39,7 +39,7 @@ carried_length-w-requires c = (good (goal.at.carried_length-w-requires c).Else-a
 pub carried_k-k-requires : goal.carried_k-k-requires
 carried_k-k-requires c = (good (goal.at.carried_k-k-requires c).Else-a-ne0).head.long
 
-room : (c : goal.After-carried_length-w) → c.carried_length-w.result ≤ length c.read_book.new.1.0
+room : (c : goal.After-carried_length-w) → c.carried_length-w.result ≤ length c.read_book.new.out
 room c =
     let r = c in
     let e = r in
@@ -54,10 +54,10 @@ slice_bounds-put_page-end-2 c = sym (length-take-le _ _ (room (goal.at.slice_bou
 -- the first words of the array are the carried book
 book_is : (c : goal.After-carried_length-w) →
     let r = c in
-    take c.carried_length-w.result r.read_book.new.1.0 ≡ carried_book r.args.r.now
+    take c.carried_length-w.result r.read_book.new.out ≡ carried_book r.args.r.now
 book_is c =
     let r = c in
-    ap (λ (n : ℕ). take n r.read_book.new.1.0) c.carried_length-w.ensures.0 ∙ r.read_book.ensures.0
+    ap (λ (n : ℕ). take n r.read_book.new.out) c.carried_length-w.ensures.0 ∙ r.read_book.ensures.0
 
 asked_of : {ws ws' : Words} {k k' : ℕ} → ws ≡ ws' → k ≡ k' → Asked ws' k' → Asked ws k
 asked_of b e a = rw (b, e) a

@@ -30,7 +30,7 @@ returns c =
     let r = s.args.r.now in
     let words = book_is r s.requires e.no_input-q.result.words w.0 in
     let count = k.read4-k.ensures.0 ∙ count_is r s.requires in
-    let inside : length r / 4 - 1 ≤ length c.read_words.new.1.1.1.0 = omega (arith, w.1, e.no_input-q.ensures.1, s.requires) in
+    let inside : length r / 4 - 1 ≤ length c.read_words.new.out = omega (arith, w.1, e.no_input-q.ensures.1, s.requires) in
     record {
       inside = inside;
       counted = sym (length-take-le _ _ inside);

@@ -7,7 +7,7 @@ use Rattle.page_lines.specs.Put.{put_same}
 use Rattle.page.proofs.print_page.Goals as goal
 
 pub put_page-requires : goal.put_page-requires
-put_page-requires c κs z = asked_says _ _ (sym c.asked_number-no.ensures ∙ z)
+put_page-requires c z = asked_says _ _ (sym c.asked_number-no.ensures ∙ z)
 
 pub returns : goal.returns
 unfolding page

@@ -39,7 +39,7 @@ put_lines-requires c =
     let h = l.list-l.ensures in (
       h.held,
       omega (arith, h.states, (accepted s.args.b.now s.requires.0.ok).sizes.s_high),
-      omega (arith, t.put_title-at.ensures.1, h.held.few, t.put_title-at.auto.0, s.requires.1),
+      omega (arith, t.put_title-at.ensures.1, h.held.few, t.put_title-at.auto.out, s.requires.1),
     )
 
 pub returns : goal.returns

@@ -16,19 +16,19 @@ use Rattle.page_lines.proofs.put_lines.Goals.{In-loop-j}
 
 -- policy j ends within the array
 fits : (c : goal.In-loop-j) →
-    let l = c.args.t3 in
+    let l = c.args.l in
     c.loop-j.j * l.s + l.s ≤ length l.plans
 fits c =
     let s = c in
-    omega (arith, within c.loop-j.j s.args.t3.n s.args.t3.s (omega arith), s.requires.0.plans_long)
+    omega (arith, within c.loop-j.j s.args.l.n s.args.l.s (omega arith), s.requires.0.plans_long)
 
 -- and within 4,096 bytes
 small : (c : goal.In-loop-j) →
-    let l = c.args.t3 in
+    let l = c.args.l in
     c.loop-j.j * l.s + l.s ≤ 4096
 small c =
     let s = c in
-    omega (arith, within c.loop-j.j s.args.t3.n s.args.t3.s (omega arith), s.requires.0.small)
+    omega (arith, within c.loop-j.j s.args.l.n s.args.l.s (omega arith), s.requires.0.small)
 
 pub loop-j-init : goal.loop-j-init
 loop-j-init c =
@@ -51,7 +51,7 @@ pub put_line-p-requires : goal.put_line-p-requires
 put_line-p-requires c =
     let i = c in
     let s = i in
-    omega (arith, part_long s.args.t3 i.loop-j.j (fits (goal.at.put_line-p-requires i).In-loop-j), s.requires.1, s.requires.2, i.loop-j.invariant.2)
+    omega (arith, part_long s.args.l i.loop-j.j (fits (goal.at.put_line-p-requires i).In-loop-j), s.requires.1, s.requires.2, i.loop-j.invariant.2)
 
 pub loop-j-preserved : goal.loop-j-preserved
 loop-j-preserved c =
@@ -59,12 +59,12 @@ loop-j-preserved c =
     let i = c in
     let l = i.loop-j in
     let s = i in
-    let a = s.args.t3 in
+    let a = s.args.l in
     let z = get_or a.costs l.j (pos 0) in
     let f : SFits w64 z = record { sfits = c.put_line-arg-in-loop-j-1.given } in
-    let t : Appended l.out l.p (line_text (l.j + 1) z (part a l.j (fits (goal.at.loop-j-preserved i).In-loop-j))) y.new.0 y.result = rw (to_z-of_z f) at y.ensures.0 in (
+    let t : Appended l.out l.p (line_text (l.j + 1) z (part a l.j (fits (goal.at.loop-j-preserved i).In-loop-j))) y.new.out y.result = rw (to_z-of_z f) at y.ensures.0 in (
       omega arith,
-      y.auto.0 ∙ l.invariant.1,
+      y.auto.out ∙ l.invariant.1,
       omega (arith, y.ensures.1, part_long a l.j (fits (goal.at.loop-j-preserved i).In-loop-j), s.requires.1, l.invariant.2),
       next_line a l.j (fits (goal.at.loop-j-preserved i).In-loop-j) l.invariant.3 t,
     )
@@ -73,5 +73,5 @@ pub returns : goal.returns
 returns c =
     let l = c.loop-j in
     let s = c in
-    let e : l.j ≡ s.args.t3.n = omega arith in
-    subst (λ (m : ℕ). Appended s.args.out.now s.args.at (array_lines s.args.t3 m) l.out l.p) e l.invariant.3
+    let e : l.j ≡ s.args.l.n = omega arith in
+    subst (λ (m : ℕ). Appended s.args.out.now s.args.at (array_lines s.args.l m) l.out l.p) e l.invariant.3

@@ -17,26 +17,23 @@ use borrow.Author.Rules.{rules}
 use Rattle.table_input.proofs.convert_counted.Goals as goal
 use Rattle.table_input.proofs.convert_counted.Goals.{After-convert-c}
 
-abbrev start : goal.After-convert-c → goal.Start
-start c = c.before.before.before.before.before.before.before.before.before.before.before
-
 -- the words that were read are the table
-table : (c : goal.After-convert-c) → take (length (start c).args.r.now / 4) c.read_words.new.1.1.1.0
-    ≡ input_table (start c).args.r.now
+table : (c : goal.After-convert-c) → take (length c.args.r.now / 4) c.read_words.new.out
+    ≡ input_table c.args.r.now
 table c =
     let w = c in
-    table_is (start c).args.r.now (start c).requires.0 w.no_words-words.result w.read_words.ensures.0
+    table_is c.args.r.now c.requires.0 w.no_words-words.result w.read_words.ensures.0
 
-number : (c : goal.After-convert-c) → c.convert-c.result.no ≡ table_number (start c).args.r.now
+number : (c : goal.After-convert-c) → c.convert-c.result.no ≡ table_number c.args.r.now
 number c =
-    let s = start c in
+    let s = c in
     c.convert-c.ensures.0 ∙ ap₂ convert_number (table c) c.no_book-book.ensures ∙ asked s.args.r.now s.requires.0
     c.if-r-ne0.false
 
 -- the conversion is not refused
 module _ (c : goal.After-convert-c) (z : c.convert-c.result.no ≡ 0) where
   abbrev words : Words
-  words = input_table (start c).args.r.now
+  words = input_table c.args.r.now
 
   abbrev lent : List ℤ
   lent = c.no_book-book.result
@@ -47,8 +44,8 @@ module _ (c : goal.After-convert-c) (z : c.convert-c.result.no ≡ 0) where
   length_at : c.convert-c.result.length ≡ length (table_book words)
   length_at = length_is words (length lent) passed (c.convert-c.ensures.1 ∙ ap (λ (t : Words). convert_length t (length lent)) (table c))
 
-  book_at : (c.convert-c.result.length ≤ length c.convert-c.new.1.0)
-      × (take c.convert-c.result.length c.convert-c.new.1.0 ≡ table_book words)
+  book_at : (c.convert-c.result.length ≤ length c.convert-c.new.out)
+      × (take c.convert-c.result.length c.convert-c.new.out ≡ table_book words)
   book_at = book_is words lent passed (c.convert-c.ensures.2 ∙ ap (λ (t : Words). convert_slice t lent) (table c)) length_at
 
 pub returns-then-r-ne0 : goal.returns-then-r-ne0
@@ -71,7 +68,7 @@ returns-then-c-ne0 c =
     let y = c in
     let e = y in
     let k = (goal.at.returns-then-c-ne0 e).After-convert-c in
-    let s = start k in
+    let s = k in
     put_refused _ s.requires.1 _ (number k) e.if-c-ne0.true y.put_refused-then-c-ne0.ensures
 
 pub slice_bounds-book-end : goal.slice_bounds-book-end
@@ -84,7 +81,7 @@ pub write_words-requires : goal.write_words-requires
 write_words-requires c =
     let k = c in
     let z = c.if-c-ne0.false in
-    let s = start k in
+    let s = k in
     omega (arith, ap length (book_at k z).1, book_short _ _ (passed k z), s.requires.1)
 
 pub overflow_mul-result : goal.overflow_mul-result
@@ -99,7 +96,7 @@ returns c =
     let w = c in
     let e = w in
     let k = (goal.at.returns e).After-convert-c in
-    let s = start k in
+    let s = k in
     let z = e.if-c-ne0.false in
     let t = input_table s.args.r.now in
     put_due _ s.requires.1 (sym (number k) ∙ z)

@@ -22,7 +22,7 @@ loop-i-preserved c =
     let s = c in
     let plan = s.args.plan.now in (
       omega arith,
-      y.auto.0 ∙ l.invariant.1,
+      y.auto.out ∙ l.invariant.1,
       omega (arith, y.ensures.1, l.invariant.2),
       spoken (sym (one_more plan l.i (omega arith))) (joined l.invariant.3 y.ensures.0),
     )

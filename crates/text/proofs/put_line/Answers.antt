@@ -14,6 +14,6 @@ returns c =
     let b = g in
     let n = b in
     let s = n in
-    let t : Appended b.put_byte-b.new.0 b.put_byte-b.result (signed_decimal s.args.cost) g.put_signed-c.new.0 g.put_signed-c.result
+    let t : Appended b.put_byte-b.new.out b.put_byte-b.result (signed_decimal s.args.cost) g.put_signed-c.new.out g.put_signed-c.result
     = rw (to_z-of_z s.ranges.cost) at g.put_signed-c.ensures.0 in
     (joined (joined (joined n.put_number-a.ensures.0 (joined b.put_byte-b.ensures t)) h.put_choices-d.ensures.0) y.put_byte.ensures, omega arith)

@@ -8,15 +8,13 @@ use Rattle.text.proofs.put_number.Goals as goal
 use Rattle.text.proofs.put_number.Goals.{After-decimal-n}
 
 short : (c : goal.After-decimal-n) → c.decimal-n.result ≤ 20
-short c = few c.args.x c.decimal-n.result c.well-formed.1.1.0.1 c.decimal-n.ensures.1.0
+short c = few c.args.x c.decimal-n.result (omega arith) c.decimal-n.ensures.len
 
 pub put_text-requires : goal.put_text-requires
-put_text-requires c = omega (arith, short (goal.at.put_text-requires c).After-decimal-n, c.decimal-n.ensures.0.1)
+put_text-requires c = omega (arith, short (goal.at.put_text-requires c).After-decimal-n, c.decimal-n.ensures.in_bounds)
 
 pub returns : goal.returns
 returns c =
     let t = c.put_text.ensures in
-    let d = c in (
-      number d.args.x d.decimal-n.result _ (short (goal.at.returns d).After-decimal-n) d.decimal-n.ensures.1.0 d.decimal-n.ensures.1.1 t,
-      omega (arith, t.end, short (goal.at.returns d).After-decimal-n),
-    )
+    let s = short (goal.at.returns c).After-decimal-n in
+    (number c.args.x c.decimal-n.result _ s c.decimal-n.ensures.len c.decimal-n.ensures.digits t, omega (arith, t.end, s))
