@@ -5,7 +5,6 @@ use mathlib.Core.Bool.{Bool}
 use native.Mathlib.Omega.{arith}
 use Rattle.model.specs.Questions.{first_no, every_action, lines_allowed, cost_allowed, nexts_allowed, weights_allowed, size_questions}
 use Rattle.questions.specs.Sizes.{Sized, sized}
-use Rattle.book.proofs.Words.{no, yes'}
 use Rattle.actions.specs.Action.{code}
 use Rattle.check_book.specs.Walk.{walk_number}
 use Rattle.check_book.proofs.Numbers.{of_sizes, of_counts, of_lines}
@@ -32,7 +31,7 @@ pub counts_allowed-requires : goal.counts_allowed-requires
 counts_allowed-requires c = (size (goal.at.counts_allowed-requires c).Else-no-ne0, c.read_sizes-z.ensures)
 
 pub returns-then-not-counts_allowed : goal.returns-then-not-counts_allowed
-returns-then-not-counts_allowed c = sym (of_counts _ (sizes (goal.at.returns-then-not-counts_allowed c).Else-no-ne0) (no c.counts_allowed.ensures c.if-not-counts_allowed.true-raw))
+returns-then-not-counts_allowed c = sym (of_counts _ (sizes (goal.at.returns-then-not-counts_allowed c).Else-no-ne0) (sym c.counts_allowed.ensures ∙ c.if-not-counts_allowed.true))
 
 pub cost_limit-most-requires : goal.cost_limit-most-requires
 cost_limit-most-requires c =
@@ -59,4 +58,4 @@ returns c =
     c.walk_lines.ensures
     ∙ ap (λ (b : Bool). code (lines_allowed ws) (every_action cost_allowed ws) (every_action nexts_allowed ws) (every_action weights_allowed ws) b)
     (rw (m.cost_limit-most.ensures, a.d_is, a.h_is) (bounded_is ws z.d_low z.d_high z.h_high))
-    ∙ sym (of_lines ws (sizes (goal.at.returns r).Else-no-ne0) (yes' k.counts_allowed.ensures k.if-not-counts_allowed.false-raw))
+    ∙ sym (of_lines ws (sizes (goal.at.returns r).Else-no-ne0) (sym k.counts_allowed.ensures ∙ k.if-not-counts_allowed.false))

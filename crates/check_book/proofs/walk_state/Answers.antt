@@ -3,131 +3,121 @@ use mathlib.Core.Path.{◌≡◌, refl, sym, ap, ap₂, ◌∙◌, subst}
 use mathlib.Core.Logic.{inl, inr}
 use Prim.Native.Nat.{ℕ, ◌+◌, ◌-◌, ◌≤◌, ◌<◌}
 use native.Mathlib.Omega.{arith}
+use lib.IntN.{nat_abs}
 use lib.ListN.{length}
-use Rattle.model.specs.Model.{Words, stage, action_count, action_line, branches}
+use Rattle.model.specs.Model.{Words, word, stage, action_count, action_line, branches}
 use Rattle.model.specs.Questions.{branches_allowed}
 use Rattle.check_book.specs.Walk.{Progress}
 use Rattle.actions.specs.Action.{action_number}
-use Rattle.book.proofs.Words.{no, yes'}
 use Rattle.book.proofs.Columns.{count_is, branches_are}
 use Rattle.check_book.proofs.Progress.{step, stop}
 use Rattle.check_book.proofs.walk_state.Goals as goal
-use Rattle.check_book.proofs.walk_state.Tie as tie
+use Rattle.check_book.proofs.walk_state.Goals.{At-loop-c}
 
 pub loop-c-init : goal.loop-c-init
 loop-c-init c = (omega arith, c.requires.3)
 
--- the count that was read is the definition's
-count : (c : tie.After-size_at goal.the-invariant-loop-c goal.the-decreases-loop-c) → c.size_at-count.result ≡ action_count c.args.b.now c.args.p
-count c =
-    let s = c in
-    count_is s.args.b.now s.args.z.h s.args.p c.size_at-count.result s.requires.1.h_is c.size_at-count.ensures.is
-
 -- the action that the walk has come to
-module _ (l : tie.At-loop goal.the-invariant-loop-c goal.the-decreases-loop-c) where
-  abbrev s : tie.At-loop goal.the-invariant-loop-c goal.the-decreases-loop-c
-  s = l
+module _ (l : goal.At-loop-c) where
+  -- the count that was read is the definition's
+  count : l.size_at-count.result ≡ action_count l.args.b.now l.args.p
+  count =
+      count_is l.args.b.now l.args.z.h l.args.p l.size_at-count.result l.requires.1.h_is l.size_at-count.ensures.is
 
   abbrev ws : Words
-  ws = s.args.b.now
+  ws = l.args.b.now
 
   abbrev at : ℕ
   at = l.loop-c.w.at
 
   abbrev n : ℕ
-  n = stage ws s.args.p
+  n = stage ws l.args.p
 
   abbrev j : ℕ
-  j = action_line ws s.args.p l.loop-c.c
+  j = action_line ws l.args.p l.loop-c.c
 
   -- its line by its word
-  line : at - s.args.z.columns ≡ j
+  line : at - l.args.z.columns ≡ j
   line = omega (arith, l.loop-c.invariant.1.at-is)
 
-  from : s.args.z.columns ≤ at
+  from : l.args.z.columns ≤ at
   from = omega (arith, l.loop-c.invariant.1.at-is)
 
-  to : at ≤ s.args.z.columns + s.args.z.l
-  to = omega (arith, l.loop-c.invariant.1.at-is, l.loop-c.invariant.1.inside, s.requires.1.l_is)
+  to : at ≤ l.args.z.columns + l.args.z.l
+  to = omega (arith, l.loop-c.invariant.1.at-is, l.loop-c.invariant.1.inside, l.requires.1.l_is)
 
   within : at < length ws
-  within = omega (arith, to, s.requires.1.l_is, s.requires.1.columns_is, s.requires.0.exact, s.requires.0.l_low)
+  within = omega (arith, to, l.requires.1.l_is, l.requires.1.columns_is, l.requires.0.exact, l.requires.0.l_low)
 
   long : length ws ≤ 4172
-  long = omega (arith, s.requires.0.exact, s.requires.0.h_high, s.requires.0.s_high, s.requires.0.l_high)
+  long = omega (arith, l.requires.0.exact, l.requires.0.h_high, l.requires.0.s_high, l.requires.0.l_high)
+
+  -- 9
+  fit : branches_allowed ws l.args.q.n (at - l.args.z.columns) ≡ branches_allowed ws n j
+  fit = ap₂ (branches_allowed ws) (sym l.requires.2.stage_is) line
+
+  -- r
+  read : (r : ℕ) → r ≡ nat_abs (word ws at) → r ≡ branches ws (at - l.args.z.columns)
+  read r e =
+      let k : l.args.z.columns + (at - l.args.z.columns) ≡ at = omega (arith, from) in
+      branches_are ws l.args.z l.requires.1 (at - l.args.z.columns) r (rw k e)
+
+  -- 10 to 13
+  number : action_number l.args.q.most ws l.args.q.n (at - l.args.z.columns) ≡ action_number l.args.q.most ws n j
+  number = ap₂ (action_number l.args.q.most ws) (sym l.requires.2.stage_is) line
 
 pub action_fits-requires : goal.action_fits-requires
 action_fits-requires c =
-    let l = c.before.before in
-    ((s l).requires.0, (s l).requires.1, record { from = from l; to = to l })
-
--- 9
-fit : (c : tie.After-action_fits goal.the-invariant-loop-c goal.the-decreases-loop-c) → let l = c.before.before in c.action_fits.result ≡ branches_allowed (ws l) (n l) (j l)
-fit c =
-    let l = c.before.before in
-    c.action_fits.ensures ∙ ap₂ (branches_allowed (ws l)) (sym (s l).requires.2.Stage-is) (line l)
+    let l = (goal.at.action_fits-requires c).At-loop-c in
+    (c.requires.0, c.requires.1, record { from = from l; to = to l })
 
 pub returns-then-not-action_fits : goal.returns-then-not-action_fits
 returns-then-not-action_fits c =
-    let l = c in
+    let l = (goal.at.returns-then-not-action_fits c).At-loop-c in
     inr
     (record {
       no_is = refl;
       unfit =
-          stop (ws l.before.before.before.before) (s l.before.before.before.before).args.p l.loop-c.c (s l.before.before.before.before).requires.2.state (omega (arith, count l.before.before.before.before.before))
-          (no (fit c.before.before) c.if-not-action_fits.true-raw);
+          stop (ws l) c.args.p c.loop-c.c c.requires.2.state (omega (arith, count l))
+          (sym (c.action_fits.ensures ∙ fit l) ∙ c.if-not-action_fits.true);
     })
 
 pub size_at-r-requires : goal.size_at-r-requires
-size_at-r-requires c = within c.before.before.before.before
-
--- r
-read : (c : tie.After-size_at2 goal.the-invariant-loop-c goal.the-decreases-loop-c) →
-    let l = c.before.before.before.before in
-    c.size_at-r.result ≡ branches (ws l) (at l - (s l).args.z.columns)
-read c =
-    let l = c.before.before.before.before in
-    let e : (s l).args.z.columns + (at l - (s l).args.z.columns) ≡ at l = omega (arith, from l) in
-    branches_are (ws l) (s l).args.z (s l).requires.1 (at l - (s l).args.z.columns) c.size_at-r.result (rw e c.size_at-r.ensures.is)
+size_at-r-requires c = within (goal.at.size_at-r-requires c).At-loop-c
 
 pub action_number-no-requires : goal.action_number-no-requires
 action_number-no-requires c =
-    let e = c in
-    let l = e.before.before.before.before.before in (
-      (s l).requires.0,
-      (s l).requires.1,
-      record { from = from l; fit = yes' e.action_fits.ensures e.if-not-action_fits.false-raw; r_is = read c.before; width_is = (s l).requires.2.width_is },
+    let l = (goal.at.action_number-no-requires c).At-loop-c in (
+      c.requires.0,
+      c.requires.1,
+      record {
+        from = from l;
+        fit = sym c.action_fits.ensures ∙ c.if-not-action_fits.false;
+        r_is = read l c.size_at-r.result c.size_at-r.ensures.is;
+        width_is = c.requires.2.width_is;
+      },
     )
 
--- 10 to 13
-number : (c : tie.After-action_number goal.the-invariant-loop-c goal.the-decreases-loop-c) →
-    let l = c.before.before.before.before.before in
-    c.action_number-no.result ≡ action_number (s l).args.q.most (ws l) (n l) (j l)
-number c =
-    let l = c.before.before.before.before.before in
-    c.action_number-no.ensures ∙ ap₂ (action_number (s l).args.q.most (ws l)) (sym (s l).requires.2.Stage-is) (line l)
-
 pub overflow_add-w : goal.overflow_add-w
-overflow_add-w c = let l = c.before.before.before.before.before.before.before in omega (arith, within l, long l)
+overflow_add-w c = let l = (goal.at.overflow_add-w c).At-loop-c in omega (arith, within l, long l)
 
 pub overflow_add-w-in-loop-c : goal.overflow_add-w-in-loop-c
 overflow_add-w-in-loop-c c =
-    let l = c.before.before.before.before.before.before.before in
+    let l = (goal.at.overflow_add-w-in-loop-c c).At-loop-c in
     omega (arith, within l, long l, c.size_at-r.ensures.small)
 
 pub loop-c-preserved : goal.loop-c-preserved
 loop-c-preserved c =
-    let a = c in
-    let r = a in
-    let e = r in
-    let l = e.before.before.before.before.before.before.before in (
+    let l = (goal.at.loop-c-preserved c).At-loop-c in (
       omega arith,
-      step (ws l) (s l).args.p l.loop-c.c (s l).args.z (s l).args.q.most l.loop-c.w l.loop-c.invariant.1 (yes' (fit e.before.before.before.before.before) e.if-not-action_fits.false-raw)
-          a.action_number-no.result (number a.before.before) _ c.lower.ensures (ap (λ k. at l + 1 + k) (read r.before.before.before ∙ ap (branches (ws l)) (line l))),
+      step (ws l) c.args.p c.loop-c.c c.args.z c.args.q.most c.loop-c.w c.loop-c.invariant.1
+          (sym (c.action_fits.ensures ∙ fit l) ∙ c.if-not-action_fits.false)
+          c.action_number-no.result (c.action_number-no.ensures ∙ number l) _ c.lower.ensures
+          (ap (λ k. at l + 1 + k) (read l c.size_at-r.result c.size_at-r.ensures.is ∙ ap (branches (ws l)) (line l))),
     )
 
 pub returns : goal.returns
 returns c =
-    let l = c in
-    let e : l.loop-c.c ≡ action_count (ws l.before.before) (s l.before.before).args.p = omega (arith, count l.before.before.before) in
-    inl (subst (λ n. Progress (ws l.before.before) (s l.before.before).args.z (s l.before.before).args.q.most (s l.before.before).args.p n l.loop-c.w) e l.loop-c.invariant.1)
+    let l = (goal.at.returns c).At-loop-c in
+    let e : c.loop-c.c ≡ action_count (ws l) c.args.p = omega (arith, count l) in
+    inl (subst (λ n. Progress (ws l) c.args.z c.args.q.most c.args.p n c.loop-c.w) e c.loop-c.invariant.1)
