@@ -42,7 +42,7 @@ use Rattle.accepted.specs.Shape.{policy_is, has-policy, shape, nexts_alive, list
 use Rattle.questions.specs.FirstNo.{passes, fails, none as none_left, then_yes}
 use Rattle.laws.specs.Entries.{in_at, some_at, map_at, take_one, count_most, count_none, by_rank}
 use Rattle.laws.specs.Walks.{policy-allowed, allowed-policy, reached_from_lem}
-use Rattle.laws.specs.Difference.{low_at}
+use Rattle.laws.proofs.Difference.{low_at}
 
 not_in : (x : ℕ) (ys : List ℕ) → (In x ys → ⊥) → is_in x ys ≡ false
 not_in x ys h = same_test (is_in x ys) false (λ t. h (is_in_in x ys t)) (λ t. absurd t)

@@ -9,7 +9,7 @@ use Rattle.model.specs.Path.{byte_at, policy_cost}
 use Rattle.model.specs.Order.{first_difference, comes_before, ranking}
 use Rattle.laws.specs.Members.{In}
 use Rattle.laws.specs.Policies.{FirstDifference}
-use Rattle.laws.specs.Difference.{first_agree, first_state_lem}
+use Rattle.laws.proofs.Difference.{first_agree, first_state_lem}
 use Rattle.accepted.specs.Demands.{reached, policy-bytes, first_difference_lem, both_reach, comes_before_is, in_list, rest-after}
 
 -- the first costs less, or as much with the lower action at the first state where they differ

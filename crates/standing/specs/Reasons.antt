@@ -23,7 +23,7 @@ use Rattle.model.specs.Standing.{Answer, is_rank, costs_more, takes_higher, plac
 use Rattle.laws.specs.Int.{ints, lt_in, le_in, sum_is}
 use Rattle.laws.specs.Members.{In, T_true, same_test}
 use Rattle.laws.specs.Sorting.{at_in}
-use Rattle.laws.specs.Difference.{first_only}
+use Rattle.laws.proofs.Difference.{first_only}
 use Rattle.laws.specs.Entries.{get_d_at}
 use Rattle.accepted.specs.Demands.{reached, reached-inside, policy-bytes, some_policy, listed, in_list, above, list_length_lem, rest-after-last, none-missing}
 use Rattle.accepted.specs.Difference.{Sooner, difference_agree, difference_reached, difference_decides, not_listed}

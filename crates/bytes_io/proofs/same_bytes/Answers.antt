@@ -7,7 +7,7 @@ use native.Mathlib.Omega.{arith}
 use lib.Dec.{eqb}
 use lib.ListN.{length, take, drop, length-drop}
 use lib.Seq.{length-take-le}
-use Rattle.laws.specs.Difference.{same_first}
+use Rattle.laws.proofs.Difference.{same_first}
 use Rattle.bytes_io.proofs.same_bytes.Goals as goal
 
 pub returns : goal.returns

@@ -8,7 +8,7 @@ use native.Mathlib.Omega.{arith}
 use lib.ListN.{length, get_or, take, drop, length-drop, drop_of_length-le}
 use lib.Seq.{length-take-le, get_or-take, get_or-drop}
 use Rattle.model.specs.Order.{first_difference}
-use Rattle.laws.specs.Difference.{drop_equal, drop_differ}
+use Rattle.laws.proofs.Difference.{drop_equal, drop_differ}
 use Rattle.compare.proofs.first_difference.Goals as goal
 use Rattle.compare.proofs.first_difference.Goals.{Start}
 

@@ -9,7 +9,7 @@ use lib.Dec.{ltb}
 use lib.ListN.{length, get_or, take}
 use lib.Seq.{length-take-le, get_or-take}
 use Rattle.model.specs.Order.{lower, first_difference}
-use Rattle.laws.specs.Difference.{first-swap, lower-first, lower-end}
+use Rattle.laws.proofs.Difference.{first-swap, lower-first, lower-end}
 use Rattle.pool.specs.Entries.{row}
 use Rattle.pool.proofs.Rows.{row_long, row_at}
 use Rattle.pool.proofs.lower_bytes.Goals as goal
