@@ -1,14 +1,9 @@
 -- The next states before transition i are outside the set.
 -- Assumes nothing.
-use mathlib.Core.Path.{◌≡◌, refl, sym, ap, ◌∙◌}
-use mathlib.Core.Bool.{Bool, not, ◌&&◌}
-use Prim.Native.Nat.{ℕ, ◌+◌, ◌-◌, ◌≤◌}
-use native.Mathlib.Omega.{arith}
+use mathlib.Core.Path.{◌≡◌}
+use Prim.Native.Nat.{◌-◌, ◌≤◌}
 use lib.ListN.{drop}
-use Rattle.model.specs.Lists.{every}
 use Rattle.model.specs.Model.{action}
-use Rattle.lines.proofs.Steps.{next_done, all_done}
-use Rattle.sets.specs.Sets.{has}
 use Rattle.feasible.specs.Barred.{avoids}
 use Rattle.feasible.proofs.avoids.Given as goal
 

@@ -1,11 +1,9 @@
 -- Assumes nothing.
-use mathlib.Core.Path.{◌≡◌, sym, ◌∙◌, subst}
-use Prim.Native.Nat.{◌+◌, ◌-◌, ◌≤◌, ◌<◌}
+use mathlib.Core.Path.{sym, ◌∙◌, subst}
+use Prim.Native.Nat.{◌+◌, ◌<◌}
 use native.Mathlib.Omega.{arith}
-use Rattle.model.specs.Model.{action_line}
 use Rattle.index.specs.Index.{ActionAt}
 use Rattle.index.proofs.Lines.{entered}
-use Rattle.feasible.specs.Barred.{goes_by}
 use Rattle.feasible.proofs.Sets.{MaskTo, mask_none, mask_on, mask_off, mask_leaves}
 use Rattle.feasible.proofs.barred_at.Goals as goal
 use Rattle.feasible.proofs.barred_at.Goals.{After-count-n, In-loop-c, then-not-goes_on, else-not-goes_on}
@@ -56,12 +54,12 @@ loop-c-preserved c =
       omega arith,
       l.loop-c.invariant.1,
       elim a.if-not-goes_on.branch [
-          then-not-goes_on w ↦
-              subst (MaskTo ws s.args.p s.args.dead (l.loop-c.c + 1)) (sym (w.mask-is ∙ w.with8-mask.ensures))
-              (mask_off ws s.args.p s.args.dead l.loop-c.c l.loop-c.mask m (sym g.goes_on.ensures ∙ w.if-not-goes_on.true))
-          | else-not-goes_on w ↦
-              subst (MaskTo ws s.args.p s.args.dead (l.loop-c.c + 1)) (sym w.mask-is)
-              (mask_on ws s.args.p s.args.dead l.loop-c.c l.loop-c.mask m (sym g.goes_on.ensures ∙ w.if-not-goes_on.false))
+        | then-not-goes_on w ↦
+            subst (MaskTo ws s.args.p s.args.dead (l.loop-c.c + 1)) (sym (w.mask-is ∙ w.with8-mask.ensures))
+            (mask_off ws s.args.p s.args.dead l.loop-c.c l.loop-c.mask m (sym g.goes_on.ensures ∙ w.if-not-goes_on.true))
+        | else-not-goes_on w ↦
+            subst (MaskTo ws s.args.p s.args.dead (l.loop-c.c + 1)) (sym w.mask-is)
+            (mask_on ws s.args.p s.args.dead l.loop-c.c l.loop-c.mask m (sym g.goes_on.ensures ∙ w.if-not-goes_on.false))
       ],
       c.line_after-j.ensures,
     )

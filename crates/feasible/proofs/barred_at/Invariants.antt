@@ -1,13 +1,9 @@
 -- The set has those of the first c actions from which no policy goes on, and j is the first line of action c.
 -- Assumes nothing.
-use mathlib.Core.Path.{◌≡◌, sym, ◌∙◌, subst}
-use Prim.Native.Nat.{◌+◌, ◌-◌, ◌≤◌, ◌<◌}
-use native.Mathlib.Omega.{arith}
+use mathlib.Core.Path.{◌≡◌}
+use Prim.Native.Nat.{◌-◌, ◌≤◌}
 use Rattle.model.specs.Model.{action_line}
-use Rattle.index.specs.Index.{ActionAt}
-use Rattle.index.proofs.Lines.{entered}
-use Rattle.feasible.specs.Barred.{goes_by}
-use Rattle.feasible.proofs.Sets.{MaskTo, mask_none, mask_on, mask_off, mask_leaves}
+use Rattle.feasible.proofs.Sets.{MaskTo}
 use Rattle.feasible.proofs.barred_at.Given as goal
 
 abbrev pub invariant-loop-c : goal.invariant-loop-c

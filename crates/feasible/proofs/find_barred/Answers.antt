@@ -1,10 +1,10 @@
 -- Assumes nothing.
 use mathlib.Core.Path.{◌≡◌, sym, ap, ◌∙◌, subst}
-use Prim.Native.Nat.{ℕ, ◌+◌, ◌-◌, ◌≤◌}
+use Prim.Native.Nat.{ℕ, ◌+◌, ◌-◌}
 use native.Mathlib.Omega.{arith}
 use lib.ListN.{set}
 use Rattle.model.specs.Lists.{is_empty, up_from}
-use Rattle.model.specs.Model.{Words, state_count}
+use Rattle.model.specs.Model.{Words}
 use Rattle.model.specs.Recursion.{feasible}
 use Rattle.accepted.specs.Facts.{accepted}
 use Rattle.sets.specs.Sets.{free}

@@ -1,9 +1,6 @@
 -- Assumes nothing.
-use mathlib.Core.Path.{◌≡◌, sym, ◌∙◌}
-use mathlib.Core.Bool.{true}
-use Prim.Native.Nat.{ℕ, ◌-◌, ◌≤◌, ◌<◌}
+use mathlib.Core.Path.{sym, ◌∙◌}
 use native.Mathlib.Omega.{arith}
-use Rattle.sets.specs.Sets.{has}
 use Rattle.feasible.proofs.Sets.{one_left, none_free, one_more}
 use Rattle.feasible.proofs.none_left.Goals as goal
 

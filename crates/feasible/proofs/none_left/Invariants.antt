@@ -1,11 +1,9 @@
 -- The actions before c are in the set.
 -- Assumes nothing.
-use mathlib.Core.Path.{◌≡◌, sym}
+use mathlib.Core.Path.{◌≡◌}
 use mathlib.Core.Bool.{true}
 use Prim.Native.Nat.{ℕ, ◌-◌, ◌≤◌, ◌<◌}
-use native.Mathlib.Omega.{arith}
 use Rattle.sets.specs.Sets.{has}
-use Rattle.feasible.proofs.Sets.{one_left, none_free, one_more}
 use Rattle.feasible.proofs.none_left.Given as goal
 
 abbrev pub invariant-loop-c : goal.invariant-loop-c
