@@ -1,28 +1,21 @@
 -- The weight and the two entries are those asked for.
 -- Assumes nothing.
+use mir.Syntax.{w64}
+use mir.Val.{SFits}
 use mir.Facts.{to_z-of_z}
-use Rattle.costs.proofs.Sums.{read64}
+use Rattle.std.proofs.Common.{rules}
 use Rattle.table.specs.Table.{row_of}
 use Rattle.child.proofs.child_cost.Goals as goal
 
 pub moved-requires : goal.moved-requires
 moved-requires c =
-    let s = c in
-    simp (
-      to_z-of_z s.ranges.cost,
-      read64 (row_of s.args.q.now s.args.p s.args.c) c.moved-arg-2-1.given,
-      read64 (row_of s.args.q.now s.args.p s.args.f) c.moved-arg-3-1.given,
-    )
-    s.requires.3
+    let new : SFits w64 (row_of c.args.q.now c.args.p c.args.c) = search rules in
+    let old : SFits w64 (row_of c.args.q.now c.args.p c.args.f) = search rules in
+    simp (to_z-of_z c.ranges.cost, to_z-of_z new, to_z-of_z old) c.requires.3
 
 pub returns : goal.returns
 returns c =
-    let d = c in
-    let s = d in
-    rw (read64 c.moved.result c.moved.type-inv)
-    (simp (
-      to_z-of_z s.ranges.cost,
-      read64 (row_of s.args.q.now s.args.p s.args.c) d.moved-arg-2-1.given,
-      read64 (row_of s.args.q.now s.args.p s.args.f) d.moved-arg-3-1.given,
-    )
-    at c.moved.ensures)
+    let new : SFits w64 (row_of c.args.q.now c.args.p c.args.c) = search rules in
+    let old : SFits w64 (row_of c.args.q.now c.args.p c.args.f) = search rules in
+    let r : SFits w64 c.moved.result = search rules in
+    rw (to_z-of_z r) (simp (to_z-of_z c.ranges.cost, to_z-of_z new, to_z-of_z old) at c.moved.ensures)

@@ -23,22 +23,22 @@ module _ (c : goal.Start) where
   result = result_fits c.args.cost c.args.w c.args.new c.args.old c.requires
 
 pub overflow_sub-result : goal.overflow_sub-result
-overflow_sub-result c = simp (to_z-of_z c.fits.new, to_z-of_z c.fits.old) (difference c)
+overflow_sub-result c = simp (to_z-of_z c.ranges.new, to_z-of_z c.ranges.old) (difference c)
 
 pub overflow_mul-result : goal.overflow_mul-result
-overflow_mul-result c = simp (weight c, to_z-of_z c.fits.new, to_z-of_z c.fits.old, to_z-of_z (difference c)) (product c)
+overflow_mul-result c = simp (weight c, to_z-of_z c.ranges.new, to_z-of_z c.ranges.old, to_z-of_z (difference c)) (product c)
 
 pub overflow_add-result : goal.overflow_add-result
 overflow_add-result c =
-    simp (weight c, to_z-of_z c.fits.cost, to_z-of_z c.fits.new, to_z-of_z c.fits.old, to_z-of_z (difference c), to_z-of_z (product c)) (result c)
+    simp (weight c, to_z-of_z c.ranges.cost, to_z-of_z c.ranges.new, to_z-of_z c.ranges.old, to_z-of_z (difference c), to_z-of_z (product c)) (result c)
 
 pub returns : goal.returns
 returns c =
     simp (
       weight c,
-      to_z-of_z c.fits.cost,
-      to_z-of_z c.fits.new,
-      to_z-of_z c.fits.old,
+      to_z-of_z c.ranges.cost,
+      to_z-of_z c.ranges.new,
+      to_z-of_z c.ranges.old,
       to_z-of_z (difference c),
       to_z-of_z (product c),
       to_z-of_z (result c),
