@@ -1,9 +1,8 @@
 -- Assumes nothing.
 use mathlib.Core.Path.{◌≡◌, sym, ap, ◌∙◌, subst}
-use Prim.Native.Nat.{◌+◌, ◌-◌, ◌≤◌}
+use Prim.Native.Nat.{◌+◌, ◌≤◌}
 use native.Mathlib.Omega.{arith}
 use Rattle.model.specs.Model.{line_count, state_count}
-use Rattle.book.specs.Read.{StageNear}
 use Rattle.book.proofs.Stages.{start_near, for_stage, next_near}
 use Rattle.book.proofs.Columns.{size_is}
 use Rattle.check_book.specs.Walk.{Progress}
