@@ -17,7 +17,7 @@ use Rattle.index.proofs.Lines.{headed}
 use Rattle.feasible.specs.Barred.{all_barred}
 use Rattle.costs.proofs.Sums.{read64}
 use Rattle.least.proofs.least.Goals as goal
-use Rattle.least.proofs.least.Tie as tie
+use Rattle.least.proofs.least.Goals.{Else-no-ne0, After-has64}
 
 -- 28 by whether the book has a policy
 module _ (ws : Words) (ok : book_number ws ≡ 0) where
@@ -28,7 +28,7 @@ module _ (ws : Words) (ok : book_number ws ≡ 0) where
   unfolding least_number
   number_0 e = then_yes (book_number ws) _ ok ∙ passes_28 ws ok e
 
-good : (c : tie.Else1) → book_number c.args.b.now ≡ 0
+good : (c : goal.Else-no-ne0) → book_number c.args.b.now ≡ 0
 good c = sym c.check-no.ensures ∙ c.if-no-ne0.false
 
 pub returns-then-no-ne0 : goal.returns-then-no-ne0
@@ -38,37 +38,32 @@ returns-then-no-ne0 c =
     (e, leaves e c.if-no-ne0.true _ _)
 
 pub read_sizes-z-requires : goal.read_sizes-z-requires
-read_sizes-z-requires c = headed _ (good c.before)
+read_sizes-z-requires c = headed _ (good (goal.at.read_sizes-z-requires c).Else-no-ne0)
 
 pub index-x-requires : goal.index-x-requires
-index-x-requires c = record { ok = good c.before.before; sizes = c.read_sizes-z.ensures }
+index-x-requires c = record { ok = good (goal.at.index-x-requires c).Else-no-ne0; sizes = c.read_sizes-z.ensures }
 
 -- the test of state 0 is the question
-module _ (c : tie.After-has64) where
-  abbrev e : tie.After-has64
-  e = c
-
-  abbrev ws : Words
-  ws = e.args.b.now
-
-  has : has_policy ws ≡ not c.has64.result
-  has =
-      has_is ws (good e.before.before.before.before.before)
-      ∙ ap not (sym (c.has64.ensures ∙ c.find_barred-m.ensures.dead_is 0 (omega arith) (shape ws (good e.before.before.before.before.before)).some_state))
+has : (c : goal.After-has64) → book_number c.args.b.now ≡ 0 → has_policy c.args.b.now ≡ not c.has64.result
+has c ok =
+    has_is c.args.b.now ok
+    ∙ ap not (sym (c.has64.ensures ∙ c.find_barred-m.ensures.dead_is 0 (omega arith) (shape c.args.b.now ok).some_state))
 
 pub returns-then-has64 : goal.returns-then-has64
 unfolding least_cost
 returns-then-has64 c =
-    let h = c.before.before in
-    let n = sym (number_28 (ws h) (good (e h)) (has h ∙ ap not c.if-has64.true)) in
+    let ok = good (goal.at.returns-then-has64 c).Else-no-ne0 in
+    let n = sym (number_28 c.args.b.now ok (has (goal.at.returns-then-has64 c).After-has64 ok ∙ ap not c.if-has64.true)) in
     (n, leaves n (omega arith) _ _)
 
 pub fill_table-requires : goal.fill_table-requires
 fill_table-requires c =
-    let h = c in
-    let m = h.find_barred-m in (
-      record { checked = record { ok = good (e h.before.before.before.before.before.before.before.before); sizes = h.read_sizes-z.ensures }; index = h.index-x.ensures.index },
-      all_barred (ws h.before.before.before.before.before.before.before.before) m.result.off m.result.dead m.ensures,
+    let m = c.find_barred-m in (
+      record {
+        checked = record { ok = good (goal.at.fill_table-requires c).Else-no-ne0; sizes = c.read_sizes-z.ensures };
+        index = c.index-x.ensures.index;
+      },
+      all_barred c.args.b.now m.result.off m.result.dead m.ensures,
       c.zero_rows-q.ensures,
       c.zeros-v.ensures,
     )
@@ -76,12 +71,11 @@ fill_table-requires c =
 pub returns : goal.returns
 returns c =
     let t = c.fill_table in
-    let i = c in
-    let h = i.before.before.before.before.before.before.before.before.before.before in
-    let ok = good (e h) in
-    let p = has h ∙ ap not i.if-has64.false in (
-      sym (number_0 (ws h) ok p),
-      read64 (get_or t.new.1.1.1.1.1.0 0 (pos 0)) c.result-1.given
-          ∙ t.ensures.least_is 0 (omega arith) (has_alive (ws h) ok p)
-          ∙ sym (least_value (ws h) ok p),
+    let ws = c.args.b.now in
+    let ok = good (goal.at.returns c).Else-no-ne0 in
+    let p = has (goal.at.returns c).After-has64 ok ∙ ap not c.if-has64.false in (
+      sym (number_0 ws ok p),
+      read64 (get_or t.new.v 0 (pos 0)) c.result-1.given
+          ∙ t.ensures.least_is 0 (omega arith) (has_alive ws ok p)
+          ∙ sym (least_value ws ok p),
     )
