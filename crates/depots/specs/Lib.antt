@@ -1,3 +1,2 @@
 pub mod Former
-pub mod Same
 pub mod Choice

@@ -1,4 +1,3 @@
 pub mod Calls
 pub mod Order
-pub mod Laws
 pub mod Monday

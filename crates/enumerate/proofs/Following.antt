@@ -23,7 +23,8 @@ use Rattle.accepted.specs.Demands.{policies_are}
 use Rattle.sets.specs.Sets.{SetOf}
 use Rattle.next_policy.specs.Linked.{head_or}
 use Rattle.next_policy.specs.Next.{first_above, lowest_from}
-use Rattle.next_policy.specs.Books.{lowest_policy, next_policy, lowest_is, next-after, next-bytes}
+use Rattle.next_policy.specs.Books.{lowest_policy, next_policy}
+use Rattle.next_policy.proofs.Books.{lowest_is, next-after, next-bytes}
 use Rattle.enumerate.specs.declared.Raise.{Raise}
 use Rattle.enumerate.specs.Steps.{Last, reached_before, ReachTo, filled_from, Filled, Stands, IsFirst}
 use Rattle.enumerate.proofs.Filling.{reached_is, front}

@@ -12,7 +12,7 @@ use Rattle.model.specs.Questions.{book_number}
 use Rattle.model.specs.Policy.{Policy, policies, has_policy}
 use Rattle.laws.specs.Entries.{at_low}
 use Rattle.next_policy.specs.Linked.{head_or}
-use Rattle.next_policy.specs.Books.{lowest_is, next_is}
+use Rattle.next_policy.proofs.Books.{lowest_is, next_is}
 use Rattle.enumerate.specs.Steps.{IsFirst, Followed}
 
 module _ {A : Type 0} where

@@ -14,7 +14,8 @@ use Rattle.model.specs.Limit.{Limit, mark_of, marked_on, keeps_limit}
 use Rattle.laws.specs.Members.{T_true, true-T, same_test, In, every_in, in_every}
 use Rattle.laws.specs.Kept.{every_is}
 use Rattle.path_sums.specs.Most.{most_next}
-use Rattle.path_sums.specs.Books.{most_over, most_from, over_within, over-has, over_from, from_nexts}
+use Rattle.path_sums.specs.Books.{most_over, most_from}
+use Rattle.path_sums.proofs.Books.{over_within, over-has, over_from, from_nexts}
 
 module _ (ws : Words) (limit : Limit) (bs : Policy) where
   -- "none of whose days makes more than m marked choices"

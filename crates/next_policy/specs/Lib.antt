@@ -1,4 +1,3 @@
 pub mod Linked
 pub mod Next
-pub mod Raise
 pub mod Books

@@ -1,4 +1,3 @@
 pub mod Raise
 pub mod Same
-pub mod Moves
 pub mod Records

@@ -13,7 +13,7 @@ use Rattle.model.specs.Model.{Words, word, horizon, line_count, state_count}
 use Rattle.laws.specs.Joined.{up_from_long, mapped_raised, for_each_++, each_each, each_map, map_each, map-map, each_same, each_copies, map_copies}
 use Rattle.laws.specs.Joined.{copies_last, copies_long}
 use Rattle.content.specs.Content.{Line, Entry, entry_lines, states, state_lines, lefts, rights, lengths, book_words}
-use Rattle.content.specs.Reading.{scale-word, horizon-word, lines_word, states_are, length_is}
+use Rattle.content.proofs.Reading.{scale-word, horizon-word, lines_word, states_are, length_is}
 use Rattle.reward_table.specs.Table.{table_scale, table_horizon, table_states, table_first, table_count, table_state_line, closing_line, table_entry}
 use Rattle.reward_table.specs.Table.{table_state, lines_given}
 use Rattle.reward_table.specs.Read.{Given}

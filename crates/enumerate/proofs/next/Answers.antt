@@ -14,7 +14,8 @@ use Rattle.model.specs.Policy.{Policy, is_policy}
 use Rattle.accepted.specs.Facts.{accepted}
 use Rattle.accepted.specs.Options.{Feasible}
 use Rattle.accepted.specs.Demands.{policy-bytes}
-use Rattle.next_policy.specs.Books.{next_policy, next_last}
+use Rattle.next_policy.specs.Books.{next_policy}
+use Rattle.next_policy.proofs.Books.{next_last}
 use Rattle.enumerate.specs.declared.Raise.{Raise}
 use Rattle.enumerate.specs.Steps.{Last, None, RaiseIs, Stands}
 use Rattle.enumerate.proofs.Filling.{lowest_small, reached-next}

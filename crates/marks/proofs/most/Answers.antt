@@ -14,7 +14,8 @@ use Rattle.accepted.specs.Bytes.{byte_is}
 use Rattle.accepted.specs.Facts.{accepted}
 use Rattle.accepted.specs.Shape.{shape}
 use Rattle.path_sums.specs.Most.{most_next}
-use Rattle.path_sums.specs.Books.{most_from, over_from}
+use Rattle.path_sums.specs.Books.{most_from}
+use Rattle.path_sums.proofs.Books.{over_from}
 use Rattle.marks.specs.Marks.{number_at, MarksOf, MostTo}
 use Rattle.marks.proofs.Counts.{mark_step, mark_few, mark_inside}
 use Rattle.marks.proofs.Pass.{figure, stored, kept, few}

@@ -1,6 +1,7 @@
 -- "Show that for the same K the two lists have equal length, and that the cost at each rank doesn't fall and rises by at most d × D^H. Plans may
 -- change ranks."
 -- Assumes nothing.
+-- ---- two books with the same policies, each of which costs by the second as much as by the first, or at most e more
 use Rattle.std.specs.Prelude.{◌≡◌, Bool, ◌&&◌, [], ◌∷◌, T, ℤ, ◌+ℤ◌, ◌≤ℤ◌, length}
 use Rattle.std.proofs.Math.Path.{refl, sym, ap, ap₂, fun_ext}
 use Rattle.std.proofs.Common.{◌∙◌, mul-le-mul_left, eqb-true, eq-eqb, ne_eqb}
@@ -26,8 +27,6 @@ use Rattle.accepted.specs.Shape.{shape}
 use Rattle.accepted.specs.Demands.{policies_are, weights_add_lem}
 use Rattle.sensitivity.specs.Raise.{raised, most_rise, weight_through}
 use Rattle.sensitivity.specs.Same.{scale_same, horizon-same, states-same, options-same, action-raised}
-
--- ---- two books with the same policies, each of which costs by the second as much as by the first, or at most e more
 
 module _ (ws us : Words) (e : ℕ) (same : policies us ≡ policies ws)
     (near : (bs : Policy) → In bs (policies ws) → (policy_cost ws bs ≤ℤ policy_cost us bs) × (policy_cost us bs ≤ℤ (policy_cost ws bs +ℤ pos e))) where

@@ -13,7 +13,8 @@ use Rattle.model.specs.Calls.{accept_count}
 use Rattle.reservation.specs.declared.Desk.{Desk}
 use Rattle.reservation.specs.Reservations.{riders, held_by, committed_by, has, leaves, free, ask_questions, open_for, holding, taking, asking, committing, cancelling, opening}
 use Rattle.reservation.specs.Numbers.{ask_says, commit_says, no_hold, may_cancel, may_ask, may_commit, no_rank, beyond_list}
-use Rattle.desk_calls.specs.Calls.{Call, asks, commits, cancels, opens, answer_to, after, Granted, NoneGranted, is_opening, ends_hold, next, granted_next, one_call, every_call, every_other_call}
+use Rattle.desk_calls.specs.Calls.{Call, asks, commits, cancels, opens, answer_to, after, Granted, NoneGranted, is_opening, ends_hold, next}
+use Rattle.desk_calls.proofs.Calls.{granted_next, one_call, every_call, every_other_call}
 use Rattle.desk_calls.specs.Order.{With, Orderly, opened, stays_orderly, is_rider_lem, holds, others_hold, takes, others_take, with_no_other}
 
 -- "The desk [..] opens with that record's k and nothing held or committed"

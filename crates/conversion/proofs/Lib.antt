@@ -1,0 +1,4 @@
+pub mod Days
+pub mod Sizes
+pub mod Policies
+pub mod Demands
