@@ -20,7 +20,8 @@ use Rattle.laws.specs.Members.{In, every_both, AtNexts}
 use Rattle.questions.specs.Ranges.{and_right}
 use Rattle.accepted.specs.Facts.{accepted}
 use Rattle.accepted.specs.Shape.{shape}
-use Rattle.path_sums.specs.Most.{most_next, next-same, to_go_bound}
+use Rattle.path_sums.specs.Most.{most_next}
+use Rattle.path_sums.proofs.Most.{next-same, to_go_bound}
 use Rattle.path_sums.specs.Books.{most_from}
 use Rattle.path_sums.proofs.Books.{from_nexts}
 use Rattle.marks.specs.Marks.{number_at, MarksOf, MostTo}

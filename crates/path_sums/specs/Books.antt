@@ -13,7 +13,7 @@ use Rattle.laws.specs.Members.{In}
 use Rattle.accepted.specs.Facts.{accepted}
 use Rattle.accepted.specs.Shape.{shape, togo_start, cost_bound}
 use Rattle.accepted.specs.Demands.{policy_takes, most-fits}
-use Rattle.path_sums.specs.Most.{most_of, most_within, most_next, most_to_go, to_go_bound, by_stage, path_has, most-paths, cost-most}
+use Rattle.path_sums.specs.Most.{most_of, most_next, most_to_go}
 
 -- the most over the paths of a policy of the sum of the numbers of the actions taken
 unfoldable pub most_over : Words → (ℕ → ℕ → ℕ) → Policy → ℕ
