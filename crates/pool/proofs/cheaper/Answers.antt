@@ -1,5 +1,5 @@
 -- Assumes nothing.
-use mathlib.Core.Path.{◌≡◌, sym, subst}
+use mathlib.Core.Path.{sym, subst}
 use mathlib.Core.List.{List}
 use Prim.Native.Nat.{ℕ, ◌≤◌, ◌<◌, ◌+◌, ◌/◌}
 use native.Mathlib.Omega.{arith}
@@ -78,11 +78,11 @@ loop-low-preserved-then-here-cost c =
       omega (arith, below t),
       c.loop-low.invariant.1,
       let y = get_or c.args.costs.now c.slot_at-slot.result (pos 0) in
-      let f : SFits w64 y = search rules in
-      rw (to_z-of_z w64 c.args.cost c.ranges.cost)
-      (more t
-      (subst (λ (j : ℕ). get_or c.args.costs.now j (pos 0) <ℤ c.args.cost) c.slot_at-slot.ensures
-      (lt_z_yes (true-T (read_less y c.args.cost true f c.ranges.cost c.if-here-cost.true))))),
+          let f : SFits w64 y = search rules in
+          rw (to_z-of_z w64 c.args.cost c.ranges.cost)
+          (more t
+          (subst (λ (j : ℕ). get_or c.args.costs.now j (pos 0) <ℤ c.args.cost) c.slot_at-slot.ensures
+          (lt_z_yes (true-T (read_less y c.args.cost true f c.ranges.cost c.if-here-cost.true))))),
     )
 
 pub loop-low-smaller : goal.loop-low-smaller

@@ -1,8 +1,8 @@
 -- Assumes nothing.
 use mathlib.Core.Path.{◌≡◌, refl}
-use Prim.Native.Nat.{◌≤◌, ◌-◌}
+use Prim.Native.Nat.{◌-◌}
 use native.Mathlib.Omega.{arith}
-use Rattle.pool.proofs.Moves.{moved_to, to_more, to_end}
+use Rattle.pool.proofs.Moves.{to_more, to_end}
 use Rattle.pool.proofs.move_back.Goals as goal
 
 pub loop-t-init : goal.loop-t-init

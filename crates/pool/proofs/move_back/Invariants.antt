@@ -1,9 +1,8 @@
 -- The first t places hold the slots after the first.
 -- Assumes nothing.
-use mathlib.Core.Path.{◌≡◌, refl}
+use mathlib.Core.Path.{◌≡◌}
 use Prim.Native.Nat.{◌≤◌, ◌-◌}
-use native.Mathlib.Omega.{arith}
-use Rattle.pool.proofs.Moves.{moved_to, to_more, to_end}
+use Rattle.pool.proofs.Moves.{moved_to}
 use Rattle.pool.proofs.move_back.Given as goal
 
 abbrev pub invariant-loop-t : goal.invariant-loop-t

@@ -1,9 +1,8 @@
 -- Assumes nothing.
 use mathlib.Core.Path.{◌≡◌}
-use Prim.Native.Nat.{◌≤◌, ◌-◌}
 use native.Mathlib.Omega.{arith}
 use Rattle.laws.specs.Shift.{shift_start, shift_one}
-use Rattle.pool.proofs.Moves.{moved_from, from_end}
+use Rattle.pool.proofs.Moves.{from_end}
 use Rattle.pool.proofs.move_up.Goals as goal
 
 pub loop-t-init : goal.loop-t-init

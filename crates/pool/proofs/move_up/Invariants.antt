@@ -1,10 +1,8 @@
 -- The slots from place t on have moved.
 -- Assumes nothing.
 use mathlib.Core.Path.{◌≡◌}
-use Prim.Native.Nat.{◌≤◌, ◌-◌}
-use native.Mathlib.Omega.{arith}
-use Rattle.laws.specs.Shift.{shift_start, shift_one}
-use Rattle.pool.proofs.Moves.{moved_from, from_end}
+use Prim.Native.Nat.{◌≤◌}
+use Rattle.pool.proofs.Moves.{moved_from}
 use Rattle.pool.proofs.move_up.Given as goal
 
 abbrev pub invariant-loop-t : goal.invariant-loop-t

@@ -2,14 +2,14 @@
 use mathlib.Core.Path.{◌≡◌, sym, ap, ◌∙◌}
 use mathlib.Core.Bool.{Bool}
 use mathlib.Core.List.{List}
-use Prim.Native.Nat.{ℕ, ◌≤◌, ◌<◌, ◌+◌, ◌-◌}
+use Prim.Native.Nat.{ℕ, ◌<◌}
 use native.Mathlib.Omega.{arith}
 use mir.Syntax.{w64}
 use mir.Val.{to_z, of_z}
-use lib.ListN.{length, get_or, take, drop}
+use lib.ListN.{length, get_or, take}
 use lib.Seq.{length-take-le, get_or-take}
 use Rattle.std.proofs.lemmas.Int.{to_z-of_z}
-use Rattle.pool.specs.Entries.{earlier_than, first_yes}
+use Rattle.pool.specs.Entries.{earlier_than}
 use Rattle.pool.proofs.Moves.{slot_low}
 use Rattle.pool.proofs.Insertion.{yes_none, yes_skip, yes_here, yes_later}
 use Rattle.pool.proofs.Ascent.{cheaper_no}

@@ -1,9 +1,7 @@
 -- Assumes nothing.
-use mathlib.Core.Path.{◌≡◌, refl, ◌∙◌}
-use mathlib.Core.List.{◌++◌}
-use Prim.Native.Nat.{◌≤◌, ◌-◌}
+use mathlib.Core.Path.{refl, ◌∙◌}
 use native.Mathlib.Omega.{arith}
-use lib.ListN.{length, length-set, take, drop}
+use lib.ListN.{length-set}
 use Rattle.pool.specs.Entries.{row}
 use Rattle.pool.proofs.Lists.{front-more, copied_all}
 use Rattle.pool.proofs.Rows.{row_long, row_at}

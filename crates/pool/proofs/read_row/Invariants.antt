@@ -1,13 +1,10 @@
 -- The first i bytes are copied.
 -- Assumes nothing.
-use mathlib.Core.Path.{◌≡◌, refl, ◌∙◌}
+use mathlib.Core.Path.{◌≡◌}
 use mathlib.Core.List.{◌++◌}
 use Prim.Native.Nat.{◌≤◌, ◌-◌}
-use native.Mathlib.Omega.{arith}
-use lib.ListN.{length, length-set, take, drop}
+use lib.ListN.{length, take, drop}
 use Rattle.pool.specs.Entries.{row}
-use Rattle.pool.proofs.Lists.{front-more, copied_all}
-use Rattle.pool.proofs.Rows.{row_long, row_at}
 use Rattle.pool.proofs.read_row.Given as goal
 
 abbrev pub invariant-loop-i : goal.invariant-loop-i
