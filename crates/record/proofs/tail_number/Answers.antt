@@ -14,7 +14,7 @@ use Rattle.questions.specs.FirstNo.{fails, passes, none}
 use Rattle.accepted.specs.Facts.{accepted}
 use Rattle.record.specs.declared.Listing.{Listing}
 use Rattle.record.specs.Listed.{list_length, cost_bytes, plan_bytes, Listed}
-use Rattle.record.specs.Passed.{RecordHead, head_says, sizes_fit, sizes_say, exact_length}
+use Rattle.record.specs.Passed.{head_says, sizes_fit, sizes_say, exact_length}
 use Rattle.record.proofs.Parts.{list_asked}
 use Rattle.record.proofs.tail_number.Goals as goal
 
