@@ -18,7 +18,7 @@ use Rattle.laws.specs.Best.{best_in}
 use Rattle.accepted.specs.Facts.{accepted}
 use Rattle.accepted.specs.Options.{Feasible, Alive, option_below, to_option, feasible_small}
 use Rattle.accepted.specs.Shape.{nexts_alive}
-use Rattle.sets.specs.Sets.{has, free}
+use Rattle.sets.specs.Sets.{free}
 use Rattle.feasible.specs.Barred.{Leaves}
 use Rattle.costs.specs.Terms.{value_at}
 use Rattle.costs.proofs.ToGo.{through_step, by_array, holds_more}

@@ -1,13 +1,12 @@
 -- Assumes nothing.
 use mathlib.Core.Path.{◌≡◌, refl, sym, ap, ◌∙◌}
 use mathlib.Core.Logic.{inl}
-use Prim.Native.Nat.{◌-◌, ◌≤◌}
+use Prim.Native.Nat.{◌-◌}
 use native.Mathlib.Omega.{arith}
-use Rattle.model.specs.Lists.{up_from}
 use Rattle.model.specs.Recursion.{best_of}
-use Rattle.sets.specs.Sets.{has, free}
-use Rattle.table.specs.Table.{Chosen, better, row_of}
-use Rattle.table.proofs.Better.{none_right, rest, rest_end, best_step, chosen_step}
+use Rattle.sets.specs.Sets.{has}
+use Rattle.table.specs.Table.{better, row_of}
+use Rattle.table.proofs.Better.{none_right, rest_end, best_step, chosen_step}
 use Rattle.table.proofs.best_action.Goals as goal
 
 pub loop-c-init : goal.loop-c-init

@@ -1,14 +1,12 @@
 -- The best so far and the best of the actions to come give the best of all.
 -- Assumes nothing.
-use mathlib.Core.Path.{◌≡◌, refl, sym, ap, ◌∙◌}
-use mathlib.Core.Logic.{inl}
+use mathlib.Core.Path.{◌≡◌}
 use Prim.Native.Nat.{◌-◌, ◌≤◌}
-use native.Mathlib.Omega.{arith}
 use Rattle.model.specs.Lists.{up_from}
 use Rattle.model.specs.Recursion.{best_of}
-use Rattle.sets.specs.Sets.{has, free}
+use Rattle.sets.specs.Sets.{free}
 use Rattle.table.specs.Table.{Chosen, better, row_of}
-use Rattle.table.proofs.Better.{none_right, rest, rest_end, best_step, chosen_step}
+use Rattle.table.proofs.Better.{rest}
 use Rattle.table.proofs.best_action.Given as goal
 
 abbrev pub invariant-loop-c : goal.invariant-loop-c

@@ -1,8 +1,8 @@
 -- Assumes nothing.
 use mathlib.Core.Path.{◌≡◌, sym, ◌∙◌, subst}
-use Prim.Native.Nat.{◌+◌, ◌-◌, ◌≤◌, ◌<◌}
+use Prim.Native.Nat.{◌+◌, ◌<◌}
 use native.Mathlib.Omega.{arith}
-use Rattle.model.specs.Model.{Words, action_count, action_line}
+use Rattle.model.specs.Model.{Words, action_count}
 use Rattle.accepted.specs.Options.{Feasible, to_option}
 use Rattle.index.specs.Index.{ActionAt}
 use Rattle.index.proofs.Lines.{entered}
@@ -81,14 +81,14 @@ loop-c-preserved c =
       i.invariant.1,
       i.invariant.2,
       elim a.if-not-has8.branch [
-          then-not-has8 w ↦
-              subst (FilledTo (ws t) p (i.c + 1) (s t).args.v.now (s t).args.q.now) (sym w.q-is)
-              (rw (read64 w.action_cost-y.result w.action_cost-y.type_inv)
-              (filled_more (ws t) p i.c (s t).args.v.now (s t).args.q.now i.q w.action_cost-y.result i.invariant.1 (omega arith) i.invariant.3 w.action_cost-y.ensures))
-          | else-not-has8 w ↦
-              subst (FilledTo (ws t) p (i.c + 1) (s t).args.v.now (s t).args.q.now) (sym w.q-is)
-              (filled_skip (ws t) p i.c (s t).args.v.now (s t).args.q.now i.q i.invariant.3
-              (off_none (ws t) p (s t).args.off i.c (s t).requires.2 (here t).action (sym a.has8.ensures ∙ w.if-not-has8.false)))
+        | then-not-has8 w ↦
+            subst (FilledTo (ws t) p (i.c + 1) (s t).args.v.now (s t).args.q.now) (sym w.q-is)
+            (rw (read64 w.action_cost-y.result w.action_cost-y.type_inv)
+            (filled_more (ws t) p i.c (s t).args.v.now (s t).args.q.now i.q w.action_cost-y.result i.invariant.1 (omega arith) i.invariant.3 w.action_cost-y.ensures))
+        | else-not-has8 w ↦
+            subst (FilledTo (ws t) p (i.c + 1) (s t).args.v.now (s t).args.q.now) (sym w.q-is)
+            (filled_skip (ws t) p i.c (s t).args.v.now (s t).args.q.now i.q i.invariant.3
+            (off_none (ws t) p (s t).args.off i.c (s t).requires.2 (here t).action (sym a.has8.ensures ∙ w.if-not-has8.false)))
       ],
       c.line_after-j.ensures,
     )

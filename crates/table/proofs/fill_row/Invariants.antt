@@ -1,16 +1,9 @@
 -- The entries of the feasible ones of the first c actions are filled, and j is the first line of action c.
 -- Assumes nothing.
-use mathlib.Core.Path.{◌≡◌, sym, subst}
-use Prim.Native.Nat.{◌+◌, ◌-◌, ◌≤◌, ◌<◌}
-use native.Mathlib.Omega.{arith}
-use Rattle.model.specs.Model.{Words, action_count, action_line}
-use Rattle.accepted.specs.Options.{Feasible, to_option}
-use Rattle.index.specs.Index.{ActionAt}
-use Rattle.index.proofs.Lines.{entered}
-use Rattle.costs.proofs.Sums.{read64}
+use mathlib.Core.Path.{◌≡◌}
+use Prim.Native.Nat.{◌-◌, ◌≤◌, ◌<◌}
+use Rattle.model.specs.Model.{action_line}
 use Rattle.table.specs.Table.{FilledTo}
-use Rattle.feasible.proofs.Leaves.{off_none, on_feasible}
-use Rattle.table.proofs.Rows.{filled_none, filled_more, filled_skip}
 use Rattle.table.proofs.fill_row.Given as goal
 
 abbrev pub invariant-loop-c : goal.invariant-loop-c
