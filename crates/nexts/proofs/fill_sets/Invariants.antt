@@ -1,11 +1,8 @@
 -- The states before p have their entries.
 -- Assumes nothing.
 use Prim.Native.Nat.{◌-◌, ◌≤◌}
-use native.Mathlib.Omega.{arith}
 use Rattle.model.specs.Model.{state_count}
-use Rattle.accepted.specs.Facts.{accepted}
 use Rattle.nexts.specs.Nexts.{NextsTo}
-use Rattle.nexts.proofs.Rows.{none_filled, state_more, all_filled}
 use Rattle.nexts.proofs.fill_sets.Given as goal
 
 abbrev pub invariant-loop-p : goal.invariant-loop-p

@@ -1,18 +1,16 @@
 -- Assumes nothing.
-use mathlib.Core.Path.{◌≡◌, sym, subst}
-use mathlib.Core.Logic.{⊎_elim}
-use Prim.Native.Nat.{◌+◌, ◌-◌, ◌≤◌, ◌<◌}
+use mathlib.Core.Path.{◌≡◌, sym, ◌∙◌, subst}
+use Prim.Native.Nat.{◌+◌, ◌<◌}
 use native.Mathlib.Omega.{arith}
-use Rattle.model.specs.Model.{Words, action_count, action_line}
+use Rattle.model.specs.Model.{Words, action_count}
 use Rattle.accepted.specs.Options.{feasible_small}
-use Rattle.book.proofs.Words.{yes'}
 use Rattle.index.specs.Index.{ActionAt}
 use Rattle.index.proofs.Lines.{entered}
 use Rattle.nexts.specs.Nexts.{NextsTo}
 use Rattle.feasible.proofs.Leaves.{off_none}
 use Rattle.nexts.proofs.Rows.{one_more, one_skipped}
 use Rattle.nexts.proofs.fill_state.Goals as goal
-use Rattle.nexts.proofs.fill_state.Goals.{After-count-n, In-loop-c}
+use Rattle.nexts.proofs.fill_state.Goals.{After-count-n, In-loop-c, then-not-has8, else-not-has8}
 
 state : (c : goal.After-count-n) → c.args.p < 64
 state c = let s = c in (entered s.requires.0 s.args.p s.requires.1).small
@@ -63,14 +61,16 @@ loop-c-preserved c =
       omega arith,
       i.invariant.1,
       i.invariant.2,
-      ⊎_elim
-          (λ w. subst (NextsTo (ws t) p (i.c + 1)) (sym w.3)
-          (one_more (ws t) p i.c i.t w.2.result i.invariant.1 (omega arith)
-          (λ q d h k. feasible_small (ws t) ok q (omega (arith, h, (s t).requires.1)) k) i.invariant.3 w.2.ensures))
-          (λ w. subst (NextsTo (ws t) p (i.c + 1)) (sym w.1)
-          (one_skipped (ws t) p i.c i.t i.invariant.3
-          (off_none (ws t) p (s t).args.off i.c (s t).requires.2 (here t).action (yes' a.has8.ensures w.0.left))))
-          a.if-not-has8.branch,
+      elim a.if-not-has8.branch [
+        | then-not-has8 w ↦
+            subst (NextsTo (ws t) p (i.c + 1)) (sym w.t-is)
+            (one_more (ws t) p i.c i.t w.next_set-y.result i.invariant.1 (omega arith)
+            (λ q d h k. feasible_small (ws t) ok q (omega (arith, h, (s t).requires.1)) k) i.invariant.3 w.next_set-y.ensures)
+        | else-not-has8 w ↦
+            subst (NextsTo (ws t) p (i.c + 1)) (sym w.t-is)
+            (one_skipped (ws t) p i.c i.t i.invariant.3
+            (off_none (ws t) p (s t).args.off i.c (s t).requires.2 (here t).action (sym a.has8.ensures ∙ w.if-not-has8.false)))
+      ],
       c.line_after-j.ensures,
     )
 
