@@ -31,9 +31,6 @@ loop-i-preserved c =
       λ j h. get_or-set_other l.out (s.at + l.i) j x (pos 0) (omega arith) ∙ l.invariant.1 j h,
     )
 
-pub shape_of-out : goal.shape_of-out
-shape_of-out c = c.loop-i.invariant.0.long
-
 pub returns : goal.returns
 returns c =
     let l = c.loop-i in

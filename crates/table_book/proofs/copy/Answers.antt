@@ -24,9 +24,6 @@ loop-i-preserved c =
     (fill_one _ _ _ _ c.requires.1 l.invariant x _ refl (omega arith)
     (part_step s.t.now l.i s.count p (s.from + (l.i + 1)) (pos 0) (omega arith) (omega arith) (omega arith)))
 
-pub shape_of-out : goal.shape_of-out
-shape_of-out c = c.loop-i.invariant.long
-
 pub returns : goal.returns
 returns c =
     let l = c.loop-i in

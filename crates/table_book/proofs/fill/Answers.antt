@@ -2,11 +2,9 @@
 use mathlib.Core.Path.{◌≡◌, refl}
 use Prim.Native.Nat.{suc, ◌+◌, ◌-◌}
 use native.Mathlib.Omega.{arith}
-use lib.ListN.{replicate}
 use mir.Syntax.{w32}
-use mir.Val.{to_z}
 use mir.Facts.{to_z-of_z}
-use Rattle.bytes_io.proofs.Parts.{Filling, fill_start, fill_one, fill_end}
+use Rattle.bytes_io.proofs.Parts.{fill_start, fill_one, fill_end}
 use Rattle.table_book.proofs.fill.Goals as goal
 
 pub loop-i-init : goal.loop-i-init
@@ -19,12 +17,9 @@ loop-i-preserved c =
     let z : s.count - l.i ≡ suc (s.count - (l.i + 1)) = omega arith in
     fill_one _ _ _ _ c.requires l.invariant _ _ refl (omega arith) (rw z)
 
-pub shape_of-out : goal.shape_of-out
-shape_of-out c = c.loop-i.invariant.long
-
 pub returns : goal.returns
 returns c =
     let l = c.loop-i in
     let s = c.args in
     let z : s.count - l.i ≡ 0 = omega arith in
-    rw (← to_z-of_z c.ranges.x) (fill_end _ _ _ _ c.requires l.invariant (omega arith) (rw z))
+    rw (← to_z-of_z {w = w32} c.ranges.x) (fill_end _ _ _ _ c.requires l.invariant (omega arith) (rw z))

@@ -4,14 +4,11 @@ use mathlib.Core.Path.{◌≡◌, refl}
 use Prim.Native.Nat.{suc, ◌+◌, ◌-◌}
 use native.Mathlib.Omega.{arith}
 use lib.ListN.{replicate}
-use mir.Syntax.{w32}
-use mir.Val.{to_z}
-use mir.Facts.{to_z-of_z}
 use Rattle.bytes_io.proofs.Parts.{Filling, fill_start, fill_one, fill_end}
 use Rattle.table_book.proofs.fill.Given as goal
 
 abbrev pub invariant-loop-i : goal.invariant-loop-i
-invariant-loop-i l = Filling l.initial.out l.at l.count (replicate l.count (to_z w32 l.x)) l.out l.i (replicate (l.count - l.i) (to_z w32 l.x))
+invariant-loop-i l = Filling l.initial.out l.at l.count (replicate l.count l.x) l.out l.i (replicate (l.count - l.i) l.x)
 
 abbrev pub decreases-loop-i : goal.decreases-loop-i
 decreases-loop-i l = l.count - l.i

@@ -1,121 +1,110 @@
 -- The lines of the first state, those of the stages between, and the closing lines.
 -- Assumes nothing.
 use mathlib.Core.Path.{◌≡◌, refl, sym, ap, ap₂, ◌∙◌}
-use Prim.Native.Nat.{ℕ, ◌+◌, ◌*◌, ◌-◌}
+use mathlib.Core.Bool.{Bool}
+use Prim.Native.Nat.{ℕ, ◌+◌, ◌*◌, ◌-◌, ◌≤◌}
 use native.Mathlib.Omega.{arith}
-use mathlib.Core.List.{◌++◌}
+use mathlib.Core.List.{List, ◌++◌}
+use lib.IntN.{ℤ}
+use lib.ListN.{length}
 use Rattle.laws.specs.Joined.{copies_long}
+use Rattle.model.specs.Model.{Words}
 use Rattle.bytes_io.specs.Slices.{written}
+use Rattle.reward_table.specs.declared.Table.{Table}
 use Rattle.table_book.specs.Columns.{column_from, repeated}
+use Rattle.table_book.specs.Read.{Passed, Made}
+use Rattle.table_book.specs.declared.Sizes.{Sizes}
 use Rattle.table_book.proofs.Entries.{column_long}
 use Rattle.table_book.proofs.Puts.{Puts, put_long, put_more, first_run, later-run, last-run, lines_split, column_of_lem}
 use borrow.Author.Rules.{rules}
 use Rattle.table_book.proofs.put_column.Goals as goal
-use Rattle.table_book.proofs.put_column.Tie as tie
-
-split : (s : tie.Start) → s.args.s.lines ≡ s.args.s.first + (s.args.z.h - 1) * s.args.s.body + s.args.z.n
-split s = lines_split s.requires.0 s.requires.1
 
 -- ---- one part after another
 
-first_put : (c : tie.After-put_lines) →
-    let a = c.args in
-    Puts a.out.now a.at a.s.first (column_from a.t.now a.right a.s.from a.s.first) c.put_lines.new.1.1.1.1.1.0
-first_put c =
-    let s = c.before.before in
-    let a = s.args in
-    record {
-      is = c.put_lines.ensures;
-      count = column_long a.t.now a.right a.s.from a.s.first;
-      fits = omega (arith, split s, s.requires.2);
-    }
+module _ (t : Words) (z : Table) (s : Sizes) (p : Passed t z) (m : Made t s) (right : Bool) (o : List ℤ) (at : ℕ) (room : at + s.lines ≤ length o) where
+  split : s.lines ≡ s.first + (z.h - 1) * s.body + z.n
+  split = lines_split p m
 
-stages_put : (c : tie.After-put_stages) →
-    let a = c.args in
-    let m = a.z.h - 1 in
-    Puts a.out.now a.at (a.s.first + m * a.s.body)
-    (column_from a.t.now a.right a.s.from a.s.first ++ repeated m (column_from a.t.now a.right 0 a.s.body))
-    c.put_stages.new.1.1.1.1.0
-stages_put c =
-    let s = c.before.before.before.before.before.before in
-    let a = s.args in
-    let m = a.z.h - 1 in
-    let xs = column_from a.t.now a.right 0 a.s.body in
-    put_more (first_put c.before.before.before.before) (a.at + a.s.first) (m * a.s.body) (repeated m xs) c.put_stages.ensures refl
-    (copies_long m xs ∙ ap (λ (k : ℕ). m * k) (column_long a.t.now a.right 0 a.s.body))
-    (omega (arith, split s, s.requires.2))
+  first_put : {o₁ : List ℤ} → o₁ ≡ written o at s.first (column_from t right s.from s.first)
+      → Puts o at s.first (column_from t right s.from s.first) o₁
+  first_put e = record { is = e; count = column_long t right s.from s.first; fits = omega (arith, split, room) }
 
-all_put : (c : tie.After-put_lines2) →
-    let a = c.args in
-    let m = a.z.h - 1 in
-    Puts a.out.now a.at (a.s.first + m * a.s.body + a.z.n)
-    (column_from a.t.now a.right a.s.from a.s.first ++ repeated m (column_from a.t.now a.right 0 a.s.body)
-    ++ column_from a.t.now a.right a.s.body a.z.n)
-    c.put_lines-2.new.1.1.1.1.1.0
-all_put c =
-    let s = c.before.before.before.before.before.before.before.before.before.before.before.before in
-    let a = s.args in
-    let m = a.z.h - 1 in
-    let i : a.at + a.s.first + m * a.s.body ≡ a.at + (a.s.first + m * a.s.body) = omega arith in
-    put_more (stages_put c.before.before.before.before.before.before) (a.at + a.s.first + m * a.s.body) a.z.n
-    (column_from a.t.now a.right a.s.body a.z.n)
-    c.put_lines-2.ensures i (column_long a.t.now a.right a.s.body a.z.n) (omega (arith, split s, s.requires.2))
+  stages_put : {o₁ o₂ : List ℤ} → o₁ ≡ written o at s.first (column_from t right s.from s.first)
+      → o₂ ≡ written o₁ (at + s.first) ((z.h - 1) * s.body) (repeated (z.h - 1) (column_from t right 0 s.body))
+      → Puts o at (s.first + (z.h - 1) * s.body) (column_from t right s.from s.first ++ repeated (z.h - 1) (column_from t right 0 s.body)) o₂
+  stages_put e₁ e₂ =
+      let k = z.h - 1 in
+      let xs = column_from t right 0 s.body in
+      put_more (first_put e₁) (at + s.first) (k * s.body) (repeated k xs) e₂ refl
+      (copies_long k xs ∙ ap (λ (i : ℕ). k * i) (column_long t right 0 s.body)) (omega (arith, split, room))
+
+  all_put : {o₁ o₂ o₃ : List ℤ} → o₁ ≡ written o at s.first (column_from t right s.from s.first)
+      → o₂ ≡ written o₁ (at + s.first) ((z.h - 1) * s.body) (repeated (z.h - 1) (column_from t right 0 s.body))
+      → o₃ ≡ written o₂ (at + s.first + (z.h - 1) * s.body) z.n (column_from t right s.body z.n)
+      → Puts o at (s.first + (z.h - 1) * s.body + z.n)
+      (column_from t right s.from s.first ++ repeated (z.h - 1) (column_from t right 0 s.body) ++ column_from t right s.body z.n) o₃
+  all_put e₁ e₂ e₃ =
+      let k = z.h - 1 in
+      let i : at + s.first + k * s.body ≡ at + (s.first + k * s.body) = omega arith in
+      put_more (stages_put e₁ e₂) (at + s.first + k * s.body) z.n (column_from t right s.body z.n) e₃ i (column_long t right s.body z.n)
+      (omega (arith, split, room))
 
 pub put_lines-requires : goal.put_lines-requires
 put_lines-requires c =
-    let s = c.before.before in
-    (s.requires.0.given, s.requires.0.read, (first_run s.requires.0 s.requires.1).0, (first_run s.requires.0 s.requires.1).1, omega (arith, split s, s.requires.2))
+    let p = c.requires.0 in
+    let m = c.requires.1 in
+    (p.given, p.read, (first_run p m).0, (first_run p m).1, omega (arith, lines_split p m, c.requires.2))
 
 pub overflow_add-at : goal.overflow_add-at
-overflow_add-at c = let s = c.before.before.before.before.before.before in search (rules, split s, s.requires.2)
+overflow_add-at c = search (rules, lines_split c.requires.0 c.requires.1, c.requires.2)
 
 pub put_stages-requires : goal.put_stages-requires
 put_stages-requires c =
-    let s = c.before.before.before.before.before.before in (
-      s.requires.0.given,
-      s.requires.0.read,
-      (later-run s.requires.0 s.requires.1).0,
-      (later-run s.requires.0 s.requires.1).1,
-      omega (arith, split s, put_long (first_put c.before.before.before.before), s.requires.2),
+    let p = c.requires.0 in
+    let m = c.requires.1 in (
+      p.given,
+      p.read,
+      (later-run p m).0,
+      (later-run p m).1,
+      omega (
+        arith,
+        lines_split p m,
+        put_long (first_put _ _ _ p m c.args.right _ _ c.requires.2 c.put_lines.ensures),
+        c.requires.2,
+      ),
     )
 
 pub overflow_add-at-2 : goal.overflow_add-at-2
-overflow_add-at-2 c =
-    let s = c.before.before.before.before.before.before.before.before.before.before in
-    search (rules, split s, s.requires.2)
+overflow_add-at-2 c = search (rules, lines_split c.requires.0 c.requires.1, c.requires.2)
 
 pub overflow_sub-z : goal.overflow_sub-z
-overflow_sub-z c =
-    let s = c in
-    omega (arith, s.requires.0.given.h_low, s.requires.0.read.h_is)
+overflow_sub-z c = omega (arith, c.requires.0.given.h_low, c.requires.0.read.h_is)
 
 pub overflow_mul-z : goal.overflow_mul-z
-overflow_mul-z c =
-    let s = c.before.before.before.before.before.before.before.before.before.before.before.before in
-    search (rules, split s, s.requires.2)
+overflow_mul-z c = search (rules, lines_split c.requires.0 c.requires.1, c.requires.2)
 
 pub overflow_add-at-3 : goal.overflow_add-at-3
-overflow_add-at-3 c =
-    let s = c.before.before.before.before.before.before.before.before.before.before.before.before in
-    search (rules, split s, s.requires.2)
+overflow_add-at-3 c = search (rules, lines_split c.requires.0 c.requires.1, c.requires.2)
 
 pub put_lines-requires-2 : goal.put_lines-requires-2
 put_lines-requires-2 c =
-    let s = c.before.before.before.before.before.before.before.before.before.before.before.before in (
-      s.requires.0.given,
-      s.requires.0.read,
-      (last-run s.requires.0 s.requires.1).0,
-      (last-run s.requires.0 s.requires.1).1,
-      omega (arith, split s, put_long (stages_put c.before.before.before.before.before.before), s.requires.2),
+    let p = c.requires.0 in
+    let m = c.requires.1 in (
+      p.given,
+      p.read,
+      (last-run p m).0,
+      (last-run p m).1,
+      omega (
+        arith,
+        lines_split p m,
+        put_long (stages_put _ _ _ p m c.args.right _ _ c.requires.2 c.put_lines.ensures c.put_stages.ensures),
+        c.requires.2,
+      ),
     )
-
-pub shape_of-out : goal.shape_of-out
-shape_of-out c = put_long (all_put c.before.before)
 
 pub returns : goal.returns
 returns c =
-    let e = c in
-    let s = e.before.before.before.before.before.before.before.before.before.before.before.before.before.before in
-    (all_put e.before.before).is
-    ∙ ap₂ (written s.args.out.now s.args.at) (sym (split s))
-    (column_of_lem s.args.t.now s.args.z s.args.s s.requires.0.read s.requires.1 s.args.right)
+    let p = c.requires.0 in
+    let m = c.requires.1 in
+    (all_put _ _ _ p m c.args.right _ _ c.requires.2 c.put_lines.ensures c.put_stages.ensures c.put_lines-2.ensures).is
+    ∙ ap₂ (written c.args.out.now c.args.at) (sym (lines_split p m)) (column_of_lem c.args.t.now c.args.z c.args.s p.read m c.args.right)

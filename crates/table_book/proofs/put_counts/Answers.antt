@@ -1,93 +1,79 @@
 -- The first state, the stages between, and the closings.
 -- Assumes nothing.
 use mathlib.Core.Path.{◌≡◌, refl, ap, ap₂, ◌∙◌}
-use Prim.Native.Nat.{ℕ, ◌+◌, ◌*◌, ◌-◌}
+use Prim.Native.Nat.{ℕ, ◌+◌, ◌*◌, ◌-◌, ◌≤◌}
 use native.Mathlib.Omega.{arith}
-use mathlib.Core.List.{◌++◌}
-use lib.IntN.{pos}
-use lib.ListN.{take, drop, replicate, length-drop, length-replicate}
+use mathlib.Core.List.{List, ◌++◌}
+use lib.IntN.{ℤ, pos}
+use lib.ListN.{length, take, drop, replicate, length-drop, length-replicate}
 use lib.Seq.{length-take-le}
 use Rattle.laws.specs.Joined.{copies_long}
+use Rattle.model.specs.Model.{Words}
 use Rattle.bytes_io.specs.Slices.{written}
+use Rattle.reward_table.specs.Read.{Given, TableRead}
+use Rattle.reward_table.specs.declared.Table.{Table}
 use Rattle.table_book.specs.Columns.{repeated}
 use Rattle.table_book.proofs.Lists.{last_row}
 use Rattle.table_book.proofs.Puts.{Puts, put_long, put_more, counts_of}
 use borrow.Author.Rules.{rules}
 use Rattle.table_book.proofs.put_counts.Goals as goal
-use Rattle.table_book.proofs.put_counts.Tie as tie
 
--- the rows of n counts are H in all
-rows : (s : tie.Start) → s.args.z.h * s.args.z.n ≡ (s.args.z.h - 1) * s.args.z.n + s.args.z.n
-rows s = last_row s.args.z.h s.args.z.n (omega (arith, s.requires.0.h_low, s.requires.1.h_is))
+module _ (t : Words) (z : Table) (g : Given t) (r : TableRead t z) where
+  -- the rows of n counts are H in all
+  rows : z.h * z.n ≡ (z.h - 1) * z.n + z.n
+  rows = last_row z.h z.n (omega (arith, g.h_low, r.h_is))
 
-first_put : (c : tie.After-copy) →
-    let s = c in
-    Puts s.args.out.now s.args.at 1 (take 1 (drop (5 + s.args.z.first) s.args.t.now)) c.copy.new.1.1.1.0
-first_put c =
-    let s = c in
-    record {
-      is = c.copy.ensures;
-      count = length-take-le 1 (drop (5 + s.args.z.first) s.args.t.now)
-          (omega (arith, length-drop (5 + s.args.z.first) s.args.t.now, s.requires.0.exact, s.requires.0.first_low, s.requires.1.first-is));
-      fits = omega (arith, s.requires.2);
-    }
+  module _ (o : List ℤ) (at : ℕ) (room : at + (1 + z.h * z.n) ≤ length o) where
+    first_put : {o₁ : List ℤ} → o₁ ≡ written o at 1 (take 1 (drop (5 + z.first) t)) → Puts o at 1 (take 1 (drop (5 + z.first) t)) o₁
+    first_put e =
+        record {
+          is = e;
+          count = length-take-le 1 (drop (5 + z.first) t) (omega (arith, length-drop (5 + z.first) t, g.exact, g.first_low, r.first-is));
+          fits = omega (arith, room);
+        }
 
-abbrev start : tie.After-put_later_counts → tie.Start
-start c = c.before.before.before.before.before.before
-
-later_put : (c : tie.After-put_later_counts) →
-    let s = start c in
-    let n = s.args.z.n in
-    let m = s.args.z.h - 1 in
-    Puts s.args.out.now s.args.at (1 + m * n)
-    (take 1 (drop (5 + s.args.z.first) s.args.t.now) ++ repeated m (take n (drop 5 s.args.t.now))) c.put_later_counts.new.1.1.0
-later_put c =
-    let s = start c in
-    let n = s.args.z.n in
-    let m = s.args.z.h - 1 in
-    let t = s.args.t.now in
-    let xs = take n (drop 5 t) in
-    put_more (first_put c.before.before.before) _ (m * n) (repeated m xs) c.put_later_counts.ensures refl
-    (copies_long m xs ∙ ap (λ (k : ℕ). m * k) (length-take-le n (drop 5 t) (omega (arith, length-drop 5 t, s.requires.0.exact, s.requires.1.n_is))))
-    (omega (arith, rows s, s.requires.2))
+    later_put : {o₁ o₂ : List ℤ} → o₁ ≡ written o at 1 (take 1 (drop (5 + z.first) t))
+        → o₂ ≡ written o₁ (at + 1) ((z.h - 1) * z.n) (repeated (z.h - 1) (take z.n (drop 5 t)))
+        → Puts o at (1 + (z.h - 1) * z.n) (take 1 (drop (5 + z.first) t) ++ repeated (z.h - 1) (take z.n (drop 5 t))) o₂
+    later_put e₁ e₂ =
+        let m = z.h - 1 in
+        let xs = take z.n (drop 5 t) in
+        put_more (first_put e₁) _ (m * z.n) (repeated m xs) e₂ refl
+        (copies_long m xs ∙ ap (λ (k : ℕ). m * k) (length-take-le z.n (drop 5 t) (omega (arith, length-drop 5 t, g.exact, r.n_is))))
+        (omega (arith, rows, room))
 
 pub copy-requires : goal.copy-requires
 copy-requires c =
-    let s = c in
-    (omega (arith, s.requires.0.exact, s.requires.0.first_low, s.requires.1.first-is), omega (arith, s.requires.2))
+    (omega (arith, c.requires.0.exact, c.requires.0.first_low, c.requires.1.first-is), omega (arith, c.requires.2))
 
 pub put_later_counts-requires : goal.put_later_counts-requires
 put_later_counts-requires c =
-    let s = c.before.before.before.before.before.before in
-    (s.requires.0, s.requires.1, omega (arith, rows s, put_long (first_put c.before.before.before), s.requires.2))
+    let g = c.requires.0 in
+    let r = c.requires.1 in
+    (g, r, omega (arith, rows _ _ g r, put_long (first_put _ _ g r _ _ c.requires.2 c.copy.ensures), c.requires.2))
 
 pub overflow_mul-z : goal.overflow_mul-z
-overflow_mul-z c =
-    let s = c.before.before.before.before.before.before.before.before.before.before.before in
-    search (rules, rows s, s.requires.2)
+overflow_mul-z c = search (rules, rows _ _ c.requires.0 c.requires.1, c.requires.2)
 
 pub overflow_add-at-3 : goal.overflow_add-at-3
-overflow_add-at-3 c =
-    let s = c.before.before.before.before.before.before.before.before.before.before.before in
-    search (rules, rows s, s.requires.2)
+overflow_add-at-3 c = search (rules, rows _ _ c.requires.0 c.requires.1, c.requires.2)
 
 pub fill-requires : goal.fill-requires
 fill-requires c =
-    let s = c.before.before.before.before.before.before.before.before.before.before.before in
-    omega (arith, rows s, put_long (later_put c.before.before.before.before.before), s.requires.2)
+    let g = c.requires.0 in
+    let r = c.requires.1 in
+    omega (arith, rows _ _ g r, put_long (later_put _ _ g r _ _ c.requires.2 c.copy.ensures c.put_later_counts.ensures), c.requires.2)
 
 pub returns : goal.returns
 returns c =
-    let e = c in
-    let l = e.before.before.before.before.before.before.before in
-    let s = start l in
-    let n = s.args.z.n in
-    let m = s.args.z.h - 1 in
-    let t = s.args.t.now in
-    let i : s.args.at + 1 + m * n ≡ s.args.at + (1 + m * n) = omega arith in
-    let p = put_more (later_put l) (s.args.at + 1 + m * n) n (replicate n (pos 1)) e.fill.ensures i (length-replicate n (pos 1))
-    (omega (arith, rows s, s.requires.2)) in
-    let q : 1 + m * n + n ≡ 1 + s.args.z.h * n = omega (arith, rows s) in
-    p.is
-    ∙ ap₂ (written s.args.out.now s.args.at) q
-    (counts_of t s.args.z s.requires.1)
+    let g = c.requires.0 in
+    let r = c.requires.1 in
+    let z = c.args.z in
+    let m = z.h - 1 in
+    let w = rows c.args.t.now z g r in
+    let i : c.args.at + 1 + m * z.n ≡ c.args.at + (1 + m * z.n) = omega arith in
+    let p =
+        put_more (later_put _ _ g r _ _ c.requires.2 c.copy.ensures c.put_later_counts.ensures) (c.args.at + 1 + m * z.n) z.n (replicate z.n (pos 1))
+        c.fill.ensures i (length-replicate z.n (pos 1)) (omega (arith, w, c.requires.2)) in
+    let q : 1 + m * z.n + z.n ≡ 1 + z.h * z.n = omega (arith, w) in
+    p.is ∙ ap₂ (written c.args.out.now c.args.at) q (counts_of c.args.t.now z r)

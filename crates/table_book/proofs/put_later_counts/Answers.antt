@@ -39,8 +39,5 @@ loop-k-preserved c =
     let s = (goal.at.loop-k-preserved l).Start in
     rep_step _ _ _ _ _ s.requires.2 l.loop-k.invariant (counts_long s) c.loop-k-test.true c.copy.ensures
 
-pub shape_of-out : goal.shape_of-out
-shape_of-out c = c.loop-k.invariant.filling.long
-
 pub returns : goal.returns
 returns c = let s = c in rep_end _ _ _ _ _ s.requires.2 c.loop-k.invariant (omega arith)

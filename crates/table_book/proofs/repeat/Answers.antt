@@ -39,8 +39,5 @@ loop-k-preserved c =
     (c.again.ensures
     ∙ ap (written l.loop-k.out (from + w + l.loop-k.k * w) w) (rep_kept _ _ _ _ _ s.requires l.loop-k.invariant from w (omega arith)))
 
-pub shape_of-out : goal.shape_of-out
-shape_of-out c = c.loop-k.invariant.filling.long
-
 pub returns : goal.returns
 returns c = let s = c in rep_end _ _ _ _ _ s.requires c.loop-k.invariant (omega arith)

@@ -37,9 +37,9 @@ right-word c =
     c.word_at.ensures ∙ right_at s.args.t.now s.args.z s.requires.1 (s.args.j + l.loop-i.i) _ (omega arith)
 
 pub turn-requires : goal.turn-requires
-turn-requires c κs z =
+turn-requires c z =
     let l = c in
-    rw (read32 c.word_at.result c.word_at.type-inv, right-word c)
+    rw (read32 c.word_at.result c.word_at.type_inv, right-word c)
     ((turnable_step _ l.loop-i.rest _ l.loop-i.i _ c.loop-i-test.true l.loop-i.invariant.1).0 z)
 
 pub overflow_add-left-in-loop-i : goal.overflow_add-left-in-loop-i
@@ -61,17 +61,14 @@ loop-i-preserved c =
     let m : i < s.args.count = w.loop-i-test.true in
     let x = table_right t (s.args.j + i) in
     let e : u.turn.result ≡ turned l.loop-i.rest x
-    = u.turn.ensures ∙ ap (turned l.loop-i.rest) (read32 w.word_at.result w.word_at.type-inv ∙ right-word (goal.at.loop-i-preserved w).After-word_at) in
+    = u.turn.ensures ∙ ap (turned l.loop-i.rest) (read32 w.word_at.result w.word_at.type_inv ∙ right-word (goal.at.loop-i-preserved w).After-word_at) in
     let f : c.rest_after-rest.result ≡ rest_after l.loop-i.rest (table_left t (s.args.j + i))
     = c.rest_after-rest.ensures ∙ ap (rest_after l.loop-i.rest) (left_at t s.args.z s.requires.1 (s.args.j + i) _ (omega arith)) in
-    rw (read32 u.turn.result u.turn.type-inv, e, f) (
+    rw (read32 u.turn.result u.turn.type_inv, e, f) (
       fill_one _ _ _ _ s.requires.4 l.loop-i.invariant.0 (turned l.loop-i.rest x) _ refl (omega arith)
           (turned_step t l.loop-i.rest s.args.j i s.args.count m),
       (turnable_step t l.loop-i.rest s.args.j i s.args.count m l.loop-i.invariant.1).1,
     )
-
-pub shape_of-out : goal.shape_of-out
-shape_of-out c = c.loop-i.invariant.0.long
 
 pub returns : goal.returns
 returns c =
