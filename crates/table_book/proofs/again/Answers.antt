@@ -1,13 +1,13 @@
 -- Assumes nothing.
 use mathlib.Core.Path.{◌≡◌, refl, sym, ap, ◌∙◌}
 use mathlib.Core.List.{◌∷◌}
-use Prim.Native.Nat.{ℕ, ◌+◌, ◌-◌, ◌<◌}
+use Prim.Native.Nat.{◌+◌, ◌-◌}
 use native.Mathlib.Omega.{arith}
 use lib.IntN.{ℤ, pos}
 use lib.ListN.{take, drop, get_or}
 use lib.Seq.{get_or-set_other}
 use Rattle.book.proofs.Words.{read32}
-use Rattle.bytes_io.proofs.Parts.{Filling, fill_start, fill_one, fill_end, part_step}
+use Rattle.bytes_io.proofs.Parts.{fill_start, fill_one, fill_end, part_step}
 use Rattle.table_book.proofs.again.Goals as goal
 
 pub loop-i-init : goal.loop-i-init

@@ -1,14 +1,10 @@
 -- The words still to be copied, written over what stands there now, give the result; those that they are copied from stay.
 -- Assumes nothing.
-use mathlib.Core.Path.{◌≡◌, refl, sym, ap, ◌∙◌}
-use mathlib.Core.List.{◌∷◌}
+use mathlib.Core.Path.{◌≡◌}
 use Prim.Native.Nat.{ℕ, ◌+◌, ◌-◌, ◌<◌}
-use native.Mathlib.Omega.{arith}
-use lib.IntN.{ℤ, pos}
+use lib.IntN.{pos}
 use lib.ListN.{take, drop, get_or}
-use lib.Seq.{get_or-set_other}
-use Rattle.book.proofs.Words.{read32}
-use Rattle.bytes_io.proofs.Parts.{Filling, fill_start, fill_one, fill_end, part_step}
+use Rattle.bytes_io.proofs.Parts.{Filling}
 use Rattle.table_book.proofs.again.Given as goal
 
 abbrev pub invariant-loop-i : goal.invariant-loop-i

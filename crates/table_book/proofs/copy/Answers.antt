@@ -3,9 +3,9 @@ use mathlib.Core.Path.{◌≡◌, refl}
 use Prim.Native.Nat.{◌+◌, ◌-◌}
 use native.Mathlib.Omega.{arith}
 use lib.IntN.{pos}
-use lib.ListN.{take, drop, get_or}
+use lib.ListN.{get_or}
 use Rattle.book.proofs.Words.{read32}
-use Rattle.bytes_io.proofs.Parts.{Filling, fill_start, fill_one, fill_end, part_step}
+use Rattle.bytes_io.proofs.Parts.{fill_start, fill_one, fill_end, part_step}
 use Rattle.table_book.proofs.copy.Goals as goal
 
 pub loop-i-init : goal.loop-i-init

@@ -1,12 +1,8 @@
 -- The words still to be copied, written over what stands there now, give the result.
 -- Assumes nothing.
-use mathlib.Core.Path.{◌≡◌, refl}
 use Prim.Native.Nat.{◌+◌, ◌-◌}
-use native.Mathlib.Omega.{arith}
-use lib.IntN.{pos}
-use lib.ListN.{take, drop, get_or}
-use Rattle.book.proofs.Words.{read32}
-use Rattle.bytes_io.proofs.Parts.{Filling, fill_start, fill_one, fill_end, part_step}
+use lib.ListN.{take, drop}
+use Rattle.bytes_io.proofs.Parts.{Filling}
 use Rattle.table_book.proofs.copy.Given as goal
 
 abbrev pub invariant-loop-i : goal.invariant-loop-i

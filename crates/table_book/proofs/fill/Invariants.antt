@@ -1,10 +1,8 @@
 -- The copies still to be written, written over what stands there now, give the result.
 -- Assumes nothing.
-use mathlib.Core.Path.{◌≡◌, refl}
-use Prim.Native.Nat.{suc, ◌+◌, ◌-◌}
-use native.Mathlib.Omega.{arith}
+use Prim.Native.Nat.{◌-◌}
 use lib.ListN.{replicate}
-use Rattle.bytes_io.proofs.Parts.{Filling, fill_start, fill_one, fill_end}
+use Rattle.bytes_io.proofs.Parts.{Filling}
 use Rattle.table_book.proofs.fill.Given as goal
 
 abbrev pub invariant-loop-i : goal.invariant-loop-i

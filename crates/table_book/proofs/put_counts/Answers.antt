@@ -73,7 +73,7 @@ returns c =
     let w = rows c.args.t.now z g r in
     let i : c.args.at + 1 + m * z.n ≡ c.args.at + (1 + m * z.n) = omega arith in
     let p =
-        put_more (later_put _ _ g r _ _ c.requires.2 c.copy.ensures c.put_later_counts.ensures) (c.args.at + 1 + m * z.n) z.n (replicate z.n (pos 1))
-        c.fill.ensures i (length-replicate z.n (pos 1)) (omega (arith, w, c.requires.2)) in
+    put_more (later_put _ _ g r _ _ c.requires.2 c.copy.ensures c.put_later_counts.ensures) (c.args.at + 1 + m * z.n) z.n (replicate z.n (pos 1))
+    c.fill.ensures i (length-replicate z.n (pos 1)) (omega (arith, w, c.requires.2)) in
     let q : 1 + m * z.n + z.n ≡ 1 + z.h * z.n = omega (arith, w) in
     p.is ∙ ap₂ (written c.args.out.now c.args.at) q (counts_of c.args.t.now z r)

@@ -4,7 +4,7 @@ use Prim.Native.Nat.{◌+◌, ◌*◌, ◌-◌, ◌≤◌, ◌<◌}
 use native.Mathlib.Omega.{arith}
 use lib.ListN.{length, take, drop, length-drop}
 use lib.Seq.{length-take-le}
-use Rattle.table_book.proofs.Repeats.{Repeating, rep_start, rep_room, rep_step, rep_end}
+use Rattle.table_book.proofs.Repeats.{rep_start, rep_room, rep_step, rep_end}
 use borrow.Author.Rules.{rules}
 use Rattle.table_book.proofs.put_later_counts.Goals as goal
 use Rattle.table_book.proofs.put_later_counts.Goals.{At-loop-k, Start}

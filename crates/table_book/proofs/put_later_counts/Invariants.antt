@@ -1,11 +1,8 @@
 -- The stages still to be written, written over what stands there now, give the result.
 -- Assumes nothing.
-use mathlib.Core.Path.{◌≡◌}
-use Prim.Native.Nat.{◌+◌, ◌*◌, ◌-◌, ◌≤◌, ◌<◌}
-use native.Mathlib.Omega.{arith}
-use lib.ListN.{length, take, drop, length-drop}
-use lib.Seq.{length-take-le}
-use Rattle.table_book.proofs.Repeats.{Repeating, rep_start, rep_room, rep_step, rep_end}
+use Prim.Native.Nat.{◌-◌}
+use lib.ListN.{take, drop}
+use Rattle.table_book.proofs.Repeats.{Repeating}
 use Rattle.table_book.proofs.put_later_counts.Given as goal
 
 abbrev pub invariant-loop-k : goal.invariant-loop-k

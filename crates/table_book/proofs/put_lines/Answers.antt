@@ -1,7 +1,7 @@
 -- By which of the two columns it is.
 -- Assumes nothing.
 use mathlib.Core.Path.{ap, ◌∙◌}
-use Prim.Native.Nat.{ℕ, ◌+◌, ◌-◌}
+use Prim.Native.Nat.{ℕ, ◌+◌}
 use native.Mathlib.Omega.{arith}
 use Rattle.bytes_io.specs.Slices.{written}
 use Rattle.table_book.proofs.Puts.{left-words}

@@ -1,11 +1,11 @@
 -- Assumes nothing.
 use mathlib.Core.Path.{ap, ◌∙◌}
-use Prim.Native.Nat.{◌+◌, ◌*◌, ◌-◌, ◌≤◌, ◌<◌}
+use Prim.Native.Nat.{◌+◌, ◌*◌, ◌≤◌, ◌<◌}
 use native.Mathlib.Omega.{arith}
-use lib.ListN.{length, take, drop, length-drop}
+use lib.ListN.{length, drop, length-drop}
 use lib.Seq.{length-take-le}
 use Rattle.bytes_io.specs.Slices.{written}
-use Rattle.table_book.proofs.Repeats.{Repeating, rep_start, rep_room, rep_step, rep_kept, rep_end}
+use Rattle.table_book.proofs.Repeats.{rep_start, rep_room, rep_step, rep_kept, rep_end}
 use borrow.Author.Rules.{rules}
 use Rattle.table_book.proofs.repeat.Goals as goal
 use Rattle.table_book.proofs.repeat.Goals.{At-loop-k}

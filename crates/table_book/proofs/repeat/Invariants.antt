@@ -1,12 +1,8 @@
 -- The runs still to be written, written over what stands there now, give the result; the one that they are copied from stays.
 -- Assumes nothing.
-use mathlib.Core.Path.{ap, ◌∙◌}
-use Prim.Native.Nat.{◌+◌, ◌*◌, ◌-◌, ◌≤◌, ◌<◌}
-use native.Mathlib.Omega.{arith}
-use lib.ListN.{length, take, drop, length-drop}
-use lib.Seq.{length-take-le}
-use Rattle.bytes_io.specs.Slices.{written}
-use Rattle.table_book.proofs.Repeats.{Repeating, rep_start, rep_room, rep_step, rep_kept, rep_end}
+use Prim.Native.Nat.{◌-◌}
+use lib.ListN.{take, drop}
+use Rattle.table_book.proofs.Repeats.{Repeating}
 use Rattle.table_book.proofs.repeat.Given as goal
 
 abbrev pub invariant-loop-k : goal.invariant-loop-k

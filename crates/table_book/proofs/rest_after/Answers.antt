@@ -1,7 +1,6 @@
 -- By whether a line of the action before is left.
 -- Assumes nothing.
 use mathlib.Core.Path.{sym, ◌∙◌}
-use Prim.Native.Nat.{◌-◌}
 use Rattle.table_book.proofs.Turns.{rest-none, rest_some}
 use Rattle.table_book.proofs.rest_after.Goals as goal
 

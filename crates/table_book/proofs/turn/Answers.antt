@@ -1,7 +1,6 @@
 -- By whether a line of the action before is left.
 -- Assumes nothing.
 use mathlib.Core.Path.{sym, ◌∙◌}
-use Prim.Native.Nat.{◌+◌, ◌-◌}
 use lib.IntN.{neg_ℤ, +ℤ_idl}
 use mir.Facts.{to_z-of_z}
 use Rattle.table_book.proofs.Turns.{neg-fits, turn_first, turn_later}

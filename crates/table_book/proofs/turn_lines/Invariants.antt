@@ -1,14 +1,8 @@
 -- The words still to be written, written over what stands there now, give the result.
 -- Assumes nothing.
-use mathlib.Core.Path.{◌≡◌, refl, ap, ◌∙◌}
-use Prim.Native.Nat.{◌+◌, ◌-◌, ◌<◌}
-use native.Mathlib.Omega.{arith}
-use Rattle.book.proofs.Words.{read32}
-use Rattle.bytes_io.proofs.Parts.{Filling, fill_start, fill_one, fill_end}
-use Rattle.reward_table.specs.Table.{table_left, table_right}
-use Rattle.reward_table.proofs.Facts.{left_at, right_at}
-use Rattle.table_book.specs.Columns.{turned, rest_after, turned_from, Turnable}
-use Rattle.table_book.proofs.Turns.{turned_step, turnable_step}
+use Prim.Native.Nat.{◌+◌, ◌-◌}
+use Rattle.bytes_io.proofs.Parts.{Filling}
+use Rattle.table_book.specs.Columns.{turned_from, Turnable}
 use Rattle.table_book.proofs.turn_lines.Given as goal
 
 abbrev pub invariant-loop-i : goal.invariant-loop-i
