@@ -4,7 +4,6 @@ use mathlib.Core.Path.{sym, ap, ◌∙◌}
 use mathlib.Core.Bool.{not}
 use Prim.Native.Nat.{◌<◌}
 use native.Mathlib.Omega.{arith}
-use borrow.Author.Tests.{not-true, not-false}
 use Rattle.model.specs.Model.{action_count, options}
 use Rattle.policy.proofs.Allowed.{allowed_unreached, beyond_actions, own-action}
 use Rattle.policy.proofs.byte_allowed.Goals as goal
@@ -13,12 +12,12 @@ use Rattle.policy.proofs.byte_allowed.Goals.{Else-n-c}
 pub returns-then-not-reached : goal.returns-then-not-reached
 returns-then-not-reached c =
     let s = c.args in
-    rw (not-true s.reached c.if-not-reached.true-raw) (sym (allowed_unreached (options s.b.now s.p) s.c))
+    rw c.if-not-reached.true (sym (allowed_unreached (options s.b.now s.p) s.c))
 
 pub returns-then-n-c : goal.returns-then-n-c
 returns-then-n-c c =
     let s = c.args in
-    rw (not-false s.reached c.if-not-reached.false-raw)
+    rw c.if-not-reached.false
     (sym (beyond_actions s.b.now s.p s.c (omega (arith, c.count-n.ensures, c.if-n-c.true))))
 
 -- the byte is an action
@@ -34,5 +33,5 @@ pub returns : goal.returns
 returns c =
     let e = c in
     let s = e.args in
-    rw (not-false s.reached e.if-not-reached.false-raw)
-    (ap not c.Closed-at.ensures ∙ sym (own-action s.b.now s.p s.c (below (goal.at.returns e).Else-n-c)))
+    rw e.if-not-reached.false
+    (ap not c.closed_at.ensures ∙ sym (own-action s.b.now s.p s.c (below (goal.at.returns e).Else-n-c)))

@@ -1,166 +1,111 @@
 -- Assumes nothing.
 use mathlib.Core.Path.{◌≡◌, sym, ap, ap₂, ◌∙◌, subst}
-use mathlib.Core.Bool.{true, false, true≢false}
-use mathlib.Core.Logic.{⊎_elim}
-use Prim.Native.Nat.{ℕ, ◌+◌, ◌*◌, ◌-◌, ◌<◌}
+use mathlib.Core.Bool.{true, false, not, true≢false}
+use lib.Dec.{eqb}
+use borrow.Author.Tests.{ne_eqb}
+use Prim.Native.Nat.{ℕ, ◌+◌, ◌*◌, ◌<◌}
 use native.Mathlib.Omega.{arith}
 use lib.IntN.{ℤ, pos, ◌+ℤ◌, ◌*ℤ◌}
 use lib.ListN.{get_or}
-use mir.Syntax.{w64}
-use mir.Val.{to_z}
 use Rattle.model.specs.Lists.{is_in}
 use Rattle.model.specs.Model.{Words, first_state, state_count, action, options}
 use Rattle.model.specs.Policy.{Policy, allowed}
 use Rattle.accepted.specs.Facts.{accepted}
 use Rattle.splits.specs.Reach.{spread}
-use Rattle.book.proofs.Words.{no, yes'}
 use Rattle.book.proofs.Stages.{for_stage}
 use Rattle.costs.proofs.Sums.{read64}
 use Rattle.reach.specs.Weights.{weight_at, Holds}
 use Rattle.policy.proofs.Pass.{weighs, wrong_length, byte_refused, byte-action, room}
 use Rattle.policy.proofs.Walk.{Walk, begin, finished, small, fits, reached_on, unreached_on}
 use Rattle.policy.proofs.judge.Goals as goal
-use Rattle.policy.proofs.judge.Tie as tie
+use Rattle.policy.proofs.judge.Goals.{In-loop-p, Else-not-byte_allowed, then-reached, else-reached}
 
 pub returns-then-n-s : goal.returns-then-n-s
 returns-then-n-s c =
-    let s = c in
-    let is = wrong_length s.args.b.now s.args.plan.now (λ e. c.if-n-s.true (e ∙ sym s.requires.sizes.s_is)) in
+    let is = wrong_length c.args.b.now c.args.plan.now (λ e. c.if-n-s.true (e ∙ sym c.requires.sizes.s_is)) in
     (sym is, λ e. absurd (true≢false (sym e ∙ is)))
 
 pub loop-p-init : goal.loop-p-init
 loop-p-init c =
-    let s = c in
-    begin s.args.b.now s.args.z s.requires s.args.plan.now c.first_weights-w.result (c.if-n-s.false ∙ s.requires.sizes.s_is)
+    begin c.args.b.now c.args.z c.requires c.args.plan.now c.first_weights-w.result (c.if-n-s.false ∙ c.requires.sizes.s_is)
     c.first_weights-w.ensures
 
 -- in the loop, at state p
-module _ (l : tie.At-loop goal.the-invariant-loop-p goal.the-decreases-loop-p) where
-  abbrev s : tie.At-loop goal.the-invariant-loop-p goal.the-decreases-loop-p
-  s = l
-
+module _ (t : goal.In-loop-p) where
   abbrev ws : Words
-  ws = s.args.b.now
+  ws = t.args.b.now
 
   abbrev bs : Policy
-  bs = s.args.plan.now
+  bs = t.args.plan.now
 
   abbrev p : ℕ
-  p = l.loop-p.p
+  p = t.loop-p.p
 
   abbrev byte : ℕ
   byte = get_or bs p 0
 
-inside : (c : tie.In-loop goal.the-invariant-loop-p goal.the-decreases-loop-p) → p c.before < state_count (ws c.before)
-inside c = omega (arith, (s c.before).requires.sizes.s_is, c.loop-p-test.true)
+  inside : p < state_count ws
+  inside = omega (arith, t.requires.sizes.s_is, t.loop-p-test.true)
 
 pub stage_for-t-requires : goal.stage_for-t-requires
 stage_for-t-requires c =
-    let l = c.before.before in
-    ((accepted (ws l) (s l).requires.ok).sizes, (s l).requires.sizes, l.loop-p.invariant.near, inside c.before)
-
-pub bounds-plan-p : goal.bounds-plan-p
-bounds-plan-p c = let i = c in omega (arith, inside i.before.before.before, i.loop-p.invariant.bytes.long)
-
-pub overflow_cast-c : goal.overflow_cast-c
-overflow_cast-c c = omega (arith, c.shared_slice_known-in-loop-p-1.given c.loop-p.p)
-
-pub find-f-requires : goal.find-f-requires
-find-f-requires c =
-    let i = c in
-    let l = i.before.before.before.before in
-    ((s l).requires, c.stage_for-t.ensures, inside i.before.before.before, l.loop-p.invariant.begins, omega (arith, c.shared_slice_known-in-loop-p-1.given (p l)))
-
-pub offset_bounds-w-p : goal.offset_bounds-w-p
-offset_bounds-w-p c = let i = c in omega (arith, inside i.before.before.before.before, i.loop-p.invariant.few)
-
-pub bounds-w-p : goal.bounds-w-p
-bounds-w-p c = let i = c in omega (arith, inside i.before.before.before.before, i.loop-p.invariant.few)
-
-pub byte_allowed-requires : goal.byte_allowed-requires
-byte_allowed-requires c = let i = c in ((s i.before.before.before.before.before).requires, inside i.before.before.before.before, c.find-f.ensures.at-is)
+    ((accepted c.args.b.now c.requires.ok).sizes, c.requires.sizes, c.loop-p.invariant.near, inside (goal.at.stage_for-t-requires c).In-loop-p)
 
 pub returns-then-not-byte_allowed : goal.returns-then-not-byte_allowed
 returns-then-not-byte_allowed c =
-    let i = c in
-    let l = i.before.before.before.before.before.before.before in
-    let is = byte_refused (ws l) (bs l) (p l) l.loop-p.w l.loop-p.invariant.bytes (inside i.before.before.before.before.before.before) (no c.byte_allowed.ensures c.if-not-byte_allowed.true-raw) in
+    let t = (goal.at.returns-then-not-byte_allowed c).In-loop-p in
+    let is = byte_refused (ws t) (bs t) (p t) c.loop-p.w c.loop-p.invariant.bytes (inside t) (sym c.byte_allowed.ensures ∙ c.if-not-byte_allowed.true) in
     (sym is, λ e. absurd (true≢false (sym e ∙ is)))
 
 -- past the byte's test
-module _ (e : tie.Else2 goal.the-invariant-loop-p goal.the-decreases-loop-p) where
-  abbrev here : tie.Else2 goal.the-invariant-loop-p goal.the-decreases-loop-p
-  here = e
-
-  abbrev at : tie.Else2 goal.the-invariant-loop-p goal.the-decreases-loop-p
-  at = e
-
-  abbrev walk : Walk (ws at.before.before.before.before.before.before) (bs at.before.before.before.before.before.before) (p at.before.before.before.before.before.before) at.loop-p.t at.loop-p.at at.loop-p.w (to_z w64 at.loop-p.sum-bits)
-  walk = at.loop-p.invariant
-
-  fit : is_in (byte at.before.before.before.before.before.before) (allowed (options (ws at.before.before.before.before.before.before) (p at.before.before.before.before.before.before)) (weighs at.loop-p.w (p at.before.before.before.before.before.before))) ≡ true
-  fit = yes' e.byte_allowed.ensures e.if-not-byte_allowed.false-raw
+fit : (e : goal.Else-not-byte_allowed) → is_in (get_or e.args.plan.now e.loop-p.p 0) (allowed (options e.args.b.now e.loop-p.p) (weighs e.loop-p.w e.loop-p.p)) ≡ true
+fit e = sym e.byte_allowed.ensures ∙ e.if-not-byte_allowed.false
 
 pub at_word-a-requires : goal.at_word-a-requires
 at_word-a-requires c =
-    let e = c in
-    let l = at e.before.before in
-    let t = e.stage_for-t in
-    let has = byte-action (ws l.before.before.before.before.before.before.before) (bs l.before.before.before.before.before.before.before) (p l.before.before.before.before.before.before.before) l.loop-p.w (walk e.before.before).bytes (inside (here e.before.before)) (fit e.before.before) c.if-reached.true-raw in (
-      (s l.before.before.before.before.before.before.before).requires,
-      record { state = inside (here e.before.before); has = has; is = e.find-f.ensures.at-is has },
-      t.ensures.end_is ∙ ap (λ n. first_state (ws l.before.before.before.before.before.before.before) (n + 1)) (sym (for_stage (ws l.before.before.before.before.before.before.before) (p l.before.before.before.before.before.before.before) t.result t.ensures)),
+    let t = (goal.at.at_word-a-requires c).In-loop-p in
+    let f = fit (goal.at.at_word-a-requires c).Else-not-byte_allowed in
+    let has = byte-action (ws t) (bs t) (p t) c.loop-p.w c.loop-p.invariant.bytes (inside t) f (ap not (ne_eqb _ 0 c.if-reached.true)) in (
+      c.requires,
+      record { state = inside t; has = has; is = c.find-f.ensures.at-is has },
+      c.stage_for-t.ensures.end_is ∙ ap (λ n. first_state (ws t) (n + 1)) (sym (for_stage (ws t) (p t) c.stage_for-t.result c.stage_for-t.ensures)),
     )
 
-pub unit_by-unit-requires : goal.unit_by-unit-requires
-unit_by-unit-requires c = let e = c in ((s (at e.before.before.before)).requires, e.stage_for-t.ensures)
-
 pub overflow_mul-y : goal.overflow_mul-y
-overflow_mul-y c = let e = c.before.before.before.before in rw c.unit_by-unit.ensures (omega (arith, small (walk e) (inside (here e)) (fit e)))
-
-pub cost-requires : goal.cost-requires
-cost-requires c = c.at_word-a.ensures
+overflow_mul-y c =
+    let t = (goal.at.overflow_mul-y c).In-loop-p in
+    rw c.unit_by-unit.ensures (omega (arith, small t.loop-p.invariant (inside t) (fit (goal.at.overflow_mul-y c).Else-not-byte_allowed)))
 
 pub mul_add-sum-requires : goal.mul_add-sum-requires
 mul_add-sum-requires c =
-    let e = c.before.before.before.before.before in
-    rw (read64 c.cost.result c.cost.type-inv, c.unit_by-unit.ensures, c.cost.ensures)
-    (fits (walk e) (inside (here e)) (fit e), small (walk e) (inside (here e)) (fit e))
+    let t = (goal.at.mul_add-sum-requires c).In-loop-p in
+    let f = fit (goal.at.mul_add-sum-requires c).Else-not-byte_allowed in
+    rw (read64 c.cost.result c.cost.type_inv, c.unit_by-unit.ensures, c.cost.ensures)
+    (fits t.loop-p.invariant (inside t) f, small t.loop-p.invariant (inside t) f)
 
 pub spread_lines-requires : goal.spread_lines-requires
 spread_lines-requires c =
-    let a = c in
-    let e = a.before.before.before.before.before.before.before in
-    let l = at e in
-    (a.at_word-a.ensures, (walk e).bytes.held.long, room (ws l.before.before.before.before.before.before.before) (bs l.before.before.before.before.before.before.before) (p l.before.before.before.before.before.before.before) l.loop-p.w (walk e).bytes (inside (here e)) (s l.before.before.before.before.before.before.before).requires.ok)
-
-pub overflow_add-p : goal.overflow_add-p
-overflow_add-p c = omega (arith, inside (here c.before.before), (walk c.before.before).few)
-
-pub loop-p-smaller : goal.loop-p-smaller
-loop-p-smaller c = let i = here c.before.before in omega (arith, i.loop-p-test.true)
+    let t = (goal.at.spread_lines-requires c).In-loop-p in
+    (c.at_word-a.ensures, t.loop-p.invariant.bytes.held.long, room (ws t) (bs t) (p t) c.loop-p.w t.loop-p.invariant.bytes (inside t) c.requires.ok)
 
 pub loop-p-preserved : goal.loop-p-preserved
 loop-p-preserved c =
-    let e = c in
-    let l = at e.before.before in
-    let t = e.stage_for-t in
-    let f = e.find-f in
-    let W = Walk (ws l.before.before.before.before.before.before.before) (bs l.before.before.before.before.before.before.before) (p l.before.before.before.before.before.before.before + 1) t.result f.result.after in
-    ⊎_elim
-    (λ v. reached_on (walk e.before.before) (inside (here e.before.before)) (fit e.before.before) t.result t.ensures f.result.after f.ensures.after_is c.if-reached.w
-    (subst (λ u. Holds u (spread (weight_at l.loop-p.w (p l.before.before.before.before.before.before.before)) (action (ws l.before.before.before.before.before.before.before) (p l.before.before.before.before.before.before.before) (byte l.before.before.before.before.before.before.before)).transitions (weight_at l.loop-p.w))) (sym v.7) v.6.ensures)
-    (to_z w64 c.if-reached.sum-bits)
-    (ap (to_z w64) v.8 ∙ read64 v.4.result v.4.ok ∙ v.4.ensures
-    ∙ ap₂ (λ u z. to_z w64 l.loop-p.sum-bits +ℤ pos (weight_at l.loop-p.w (p l.before.before.before.before.before.before.before) * u) *ℤ z) v.2.ensures
-    (read64 v.3.result v.3.ok ∙ v.3.ensures)))
-    (λ v. subst (λ u. W u (to_z w64 c.if-reached.sum-bits)) (sym v.1)
-    (subst (λ u. W l.loop-p.w (to_z w64 u)) (sym v.2)
-    (unreached_on (walk e.before.before) (inside (here e.before.before)) (fit e.before.before) t.result t.ensures f.result.after f.ensures.after_is v.0.left)))
-    c.if-reached.branch
+    let t = (goal.at.loop-p-preserved c).In-loop-p in
+    let f = fit (goal.at.loop-p-preserved c).Else-not-byte_allowed in
+    elim c.if-reached.branch [
+      then-reached w ↦
+          reached_on t.loop-p.invariant (inside t) f c.stage_for-t.result c.stage_for-t.ensures c.find-f.result.after c.find-f.ensures.after_is c.if-reached.w
+          (subst (λ v. Holds v (spread (weight_at c.loop-p.w (p t)) (action (ws t) (p t) (byte t)).transitions (weight_at c.loop-p.w))) (sym w.w-is) w.spread_lines.ensures)
+          _
+          (w.sum-is ∙ read64 w.mul_add-sum.result w.mul_add-sum.type_inv
+          ∙ (rw (read64 w.cost.result w.cost.type_inv, w.cost.ensures, w.unit_by-unit.ensures) at w.mul_add-sum.ensures))
+      | else-reached w ↦
+          rw (w.w-is, w.sum-is)
+          (unreached_on t.loop-p.invariant (inside t) f c.stage_for-t.result c.stage_for-t.ensures c.find-f.result.after c.find-f.ensures.after_is
+          (ap (λ n. not (eqb n 0)) w.if-reached.false))
+    ]
 
 pub returns : goal.returns
 returns c =
-    let l = c.before.before in
-    let f = finished l.loop-p.invariant (omega (arith, (s l).requires.sizes.s_is, c.loop-p-test.false)) in
+    let f = finished c.loop-p.invariant (omega (arith, c.requires.sizes.s_is, c.loop-p-test.false)) in
     (sym f.0, λ e. f.1)

@@ -23,7 +23,7 @@ use Rattle.policy.proofs.Walk.{Walk, begin, finished, small, fits, reached_on, u
 use Rattle.policy.proofs.judge.Given as goal
 
 abbrev pub invariant-loop-p : goal.invariant-loop-p
-invariant-loop-p l = Walk l.b l.plan l.p l.t l.at l.w (to_z w64 l.sum)
+invariant-loop-p l = Walk l.b l.plan l.p l.t l.at l.w l.sum
 
 abbrev pub decreases-loop-p : goal.decreases-loop-p
 decreases-loop-p l = l.s - l.p
