@@ -55,7 +55,7 @@ module _ (x a b : ℤ) (w : ℕ) (some : 0 < w) where
   whole : y +ℤ b ≡ a
   whole = -ℤ-+ℤ_cancel a b
 
-  moved_below : ((x +ℤ pos w *ℤ (a -ℤ b)) <ℤ x) ↔ (a <ℤ b)
+  pub moved_below : ((x +ℤ pos w *ℤ (a -ℤ b)) <ℤ x) ↔ (a <ℤ b)
   moved_below = (
     λ h. let k : y <ℤ pos 0 = (scale_below w y some).0 (omega (ints, lt_in, h, sum_is x (pos w *ℤ y))) in
         omega (ints, lt_in, k, ap up whole, ap dn whole, sum_is y b),
@@ -63,7 +63,7 @@ module _ (x a b : ℤ) (w : ℕ) (some : 0 < w) where
         omega (ints, lt_in, k, sum_is x (pos w *ℤ y)),
   )
 
-  moved_same : (x +ℤ pos w *ℤ (a -ℤ b) ≡ x) ↔ (a ≡ b)
+  pub moved_same : (x +ℤ pos w *ℤ (a -ℤ b) ≡ x) ↔ (a ≡ b)
   moved_same = (
     λ h. let k : y ≡ pos 0 = scale-zero w y some (eq_in (omega (arith, ap up h, ap dn h, sum_is x (pos w *ℤ y)))) in
         eq_in (omega (arith, ap up k, ap dn k, ap up whole, ap dn whole, sum_is y b)),
@@ -88,7 +88,7 @@ reach_same act c (suc i) p reach (b ∷ bs) e =
 abbrev pub Better : Words → Policy → ℕ → ℕ → Type 0
 Better ws bs p c = ((action ws p c).cost <ℤ (taken ws bs p).cost) ⊎ (((action ws p c).cost ≡ (taken ws bs p).cost) × (c < byte_at bs p))
 
-better_other : (ws : Words) (bs : Policy) (p c : ℕ) → Better ws bs p c → c ≡ byte_at bs p → ⊥
+pub better_other : (ws : Words) (bs : Policy) (p c : ℕ) → Better ws bs p c → c ≡ byte_at bs p → ⊥
 unfolding taken
 better_other ws bs p c (inl h) e = <ℤ_irrefl (rw e at h)
 better_other ws bs p c (inr h) e = omega (arith, h.1)
@@ -220,10 +220,10 @@ module _ (ws : Words) (ok : book_number ws ≡ 0) (p : ℕ) (l : p < state_count
         long : length bs ≡ state_count ws
         long = ((policy-bytes ws ok bs).0 t).long
 
-        byte_there : byte_at (set bs p c) p ≡ c
+        pub byte_there : byte_at (set bs p c) p ≡ c
         byte_there = get_or-set_same bs p c 255 (omega (arith, long))
 
-        byte_else : (q : ℕ) → (q ≡ p → ⊥) → byte_at (set bs p c) q ≡ byte_at bs q
+        pub byte_else : (q : ℕ) → (q ≡ p → ⊥) → byte_at (set bs p c) q ≡ byte_at bs q
         byte_else q n = get_or-set_other bs p q c 255 n
 
         -- the same states are reached
@@ -260,48 +260,7 @@ module _ (ws : Words) (ok : book_number ws ≡ 0) (p : ℕ) (l : p < state_count
             ∙ ap₂ (λ (z : ℤ) (n : ℕ). z +ℤ pos n *ℤ ((taken ws (set bs p c) p).cost -ℤ (taken ws bs p).cost)) (sym (cost_recursion ws ok bs t)) ways_is
             ∙ ap (λ (b : ℕ). policy_cost ws bs +ℤ pos (weight_past p (paths ws bs)) *ℤ ((action ws p b).cost -ℤ (taken ws bs p).cost)) byte_there
 
-        -- the cheaper depot comes first, and of two that cost the same the lower number
-        pub depot_before : (c ≡ byte_at bs p → ⊥) → T (comes_before ws (set bs p c) bs) ↔ Better ws bs p c
-        depot_before n = (λ b. to (is.0 b), λ s. is.1 (from s))
-          where
-            first : FirstDifference (action ws) (state_count ws) 0 (0 ∷ []) (set bs p c) bs
-            first = record {
-              index = p;
-              inside = l;
-              agree = λ j k. byte_else j (λ e. omega arith);
-              disagree = λ e. n (sym byte_there ∙ e);
-              reached_by_one = rw (zero-add p, same-reached) i;
-              reached_by_other = rw (zero-add p) i;
-            }
-
-            Costs : Type 0
-            Costs =
-                (policy_cost ws (set bs p c) <ℤ policy_cost ws bs)
-                ⊎ ((policy_cost ws (set bs p c) ≡ policy_cost ws bs) × (byte_at (set bs p c) p < byte_at bs p))
-
-            is : T (comes_before ws (set bs p c) bs) ↔ Costs
-            is = comes_before_is ws ok (set bs p c) bs other_depot t first
-
-            below : (policy_cost ws (set bs p c) <ℤ policy_cost ws bs) ↔ ((action ws p c).cost <ℤ (taken ws bs p).cost)
-            below = rw depot_cost (moved_below (policy_cost ws bs) (action ws p c).cost (taken ws bs p).cost (weight_past p (paths ws bs)) some_end)
-
-            equal : (policy_cost ws (set bs p c) ≡ policy_cost ws bs) ↔ ((action ws p c).cost ≡ (taken ws bs p).cost)
-            equal = rw depot_cost (moved_same (policy_cost ws bs) (action ws p c).cost (taken ws bs p).cost (weight_past p (paths ws bs)) some_end)
-
-            to : Costs → Better ws bs p c
-            to (inl h) = inl (below.0 h)
-            to (inr h) = inr (equal.0 h.0, rw byte_there at h.1)
-
-            from : Better ws bs p c → Costs
-            from (inl h) = inl (below.1 h)
-            from (inr h) = inr (equal.1 h.0, rw byte_there h.1)
-
         module _ (K : ℕ) where
           -- "so a filed list is complete over depots too": the plan with the other depot is listed exactly when fewer than K plans come before it
           pub depot_listed : In (set bs p c) (ranking ws K) ↔ (count (λ q. comes_before ws q (set bs p c)) (policies ws) < K)
           depot_listed = (λ j. ((in_list ws ok K (set bs p c)).0 j).1, λ h. (in_list ws ok K (set bs p c)).1 (other_depot, h))
-
-          -- where a list has a plan, the same plan with a better depot stands above it
-          pub better_above : (j : ℕ) → get_elem? (ranking ws K) j ≡ some bs → Better ws bs p c
-              → (k : ℕ) × (k < j) × (get_elem? (ranking ws K) k ≡ some (set bs p c))
-          better_above j e h = above_all ws ok K j bs (set bs p c) e other_depot ((depot_before (better_other ws bs p c h)).1 h)
