@@ -1,2 +1,3 @@
 pub mod Moves
 pub mod Records
+pub mod Same

@@ -83,7 +83,7 @@ module _ (ws : Words) (p c d : ℕ) where
       ∙ sum_same (horizon ws) (λ (n : ℕ). bit (leb (first_state us (n + 1)) q)) (λ (n : ℕ). bit (leb (first_state ws (n + 1)) q))
       (λ n l. ap (λ (m : ℕ). bit (leb m q)) (first-same (n + 1) (omega arith)))
 
-  actions_same : (q : ℕ) → q < state_count ws → action_count us q ≡ action_count ws q
+  pub actions_same : (q : ℕ) → q < state_count ws → action_count us q ≡ action_count ws q
   unfolding action_count
   actions_same q l = ap nat_abs (ap (λ (h : ℕ). word us (4 + h + q)) horizon-same ∙ front-word (4 + horizon ws + q) (omega arith))
 
@@ -213,7 +213,7 @@ module _ (ws : Words) (p c d : ℕ) where
 
       -- "raises where neither old nor new cost is the mark": the options are the same
       module _ (old : closed (action ws p c).cost ≡ false) (new : closed (action (raised ws p c d) p c).cost ≡ false) where
-        open_same : (q b : ℕ) → closed (action us q b).cost ≡ closed (action ws q b).cost
+        pub open_same : (q b : ℕ) → closed (action us q b).cost ≡ closed (action ws q b).cost
         open_same q b = go (eqb q p) refl (eqb b c) refl
           where
             other : extra p c d q b ≡ 0 → closed (action us q b).cost ≡ closed (action ws q b).cost
@@ -223,11 +223,3 @@ module _ (ws : Words) (p c d : ℕ) where
             go true e true h = rw (eqb-true q p e, eqb-true b c h) (new ∙ sym old)
             go true e false h = other (rw (e, h))
             go false e t h = other (rw e)
-
-        pub options-same : (q : ℕ) → q < state_count ws → options (raised ws p c d) q ≡ options ws q
-        options-same q l =
-            options_are us q
-            ∙ ap (λ (n : ℕ). keep (λ (b : ℕ). not (closed (action us q b).cost)) (up_from 0 n)) (actions_same q l)
-            ∙ keep_same (λ (b : ℕ). not (closed (action us q b).cost)) (λ (b : ℕ). not (closed (action ws q b).cost)) (up_from 0 (action_count ws q))
-            (λ b i. ap not (open_same q b))
-            ∙ sym (options_are ws q)
