@@ -4,7 +4,7 @@ set -eu
 cd "$(dirname "$0")/.."
 out=target/bench
 mkdir -p "$out"
-rt staticlib kbest_c >"$out/staticlib.log" 2>&1 || { tail -20 "$out/staticlib.log"; exit 1; }
+tools/build.sh kbest_c >"$out/staticlib.log" 2>&1 || { tail -20 "$out/staticlib.log"; exit 1; }
 flags="--edition 2021 -C opt-level=3 -D warnings"
 rustc $flags --crate-type rlib --crate-name kbest bindings/rust/src/lib.rs -L native=target/staticlib --out-dir "$out"
 rustc $flags bench/main.rs --crate-name kbest_bench --extern kbest="$out/libkbest.rlib" -o "$out/kbest_bench"

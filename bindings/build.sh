@@ -21,7 +21,7 @@ need rustc "Debian package rustc"
 need python3 "Debian package python3"
 
 mkdir -p "$out"
-rt staticlib kbest_c >"$out/staticlib.log" 2>&1 || { tail -20 "$out/staticlib.log" >&2; exit 1; }
+tools/build.sh kbest_c >"$out/staticlib.log" 2>&1 || { tail -20 "$out/staticlib.log" >&2; exit 1; }
 
 c_program() { # NAME
     gcc -std=c11 -O2 -Wall -Wextra -Werror -I bindings/c "bindings/c/$1.c" "$archive" -o "$out/c_$1"

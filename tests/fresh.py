@@ -3,7 +3,7 @@
 
     tests/fresh.py [SECONDS] [SEED]     by default 60 seconds and a seed that is drawn
 
-Builds the program `cases` and the six of programs.py first (rt check). Stops at the first difference and prints the seed, the case or the input and what
+Builds the program `cases` and the six of programs.py first (tools/build.sh). Stops at the first difference and prints the seed, the case or the input and what
 came; exit status 1. `tests/cases.py show SEED N` prints a case again.
 """
 
@@ -43,8 +43,8 @@ def compare(seed, numbers):
 def main(args):
     seconds = float(args[0]) if args else 60
     seed = args[1] if len(args) > 1 else str(int.from_bytes(os.urandom(4), 'little'))
-    if subprocess.run(['rt', 'check', 'cases', *programs.PROGRAMS], cwd=ROOT, stdout=subprocess.DEVNULL).returncode:
-        print('rt check fails')
+    if subprocess.run(['tools/build.sh', 'cases', *programs.PROGRAMS], cwd=ROOT, stdout=subprocess.DEVNULL).returncode:
+        print('tools/build.sh fails')
         return 1
     print('seed %s' % seed, flush=True)
     end, n, m = time.monotonic() + seconds, 0, 0

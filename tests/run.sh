@@ -6,7 +6,7 @@ cd "$(dirname "$0")/.."
 tests/needs.sh
 export PYTHONDONTWRITEBYTECODE=1
 mkdir -p target
-rt check kbest kbest_file kbest_page kbest_find kbest_limit kbest_table cases >target/tests.log 2>&1 || { tail -20 target/tests.log; exit 1; }
+tools/build.sh kbest kbest_file kbest_page kbest_find kbest_limit kbest_table cases >target/tests.log 2>&1 || { tail -20 target/tests.log; exit 1; }
 bindings/build.sh
 python3 tests/archive.py target/staticlib/libkbest_c.a target/bin/kbest target/bin/kbest_file target/bin/kbest_page \
     target/bin/kbest_find target/bin/kbest_limit target/bin/kbest_table

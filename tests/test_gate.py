@@ -12,12 +12,12 @@ PASSED = '57 passed, 0 failed'
 RT = '''#!/bin/sh
 echo "rt $*" >>calls
 case "$1 $ACT" in
-"fmt fmt") echo "crates/x/src/lib.rt"; exit 1 ;;
 "ci ci") echo "rt: FAILED: x"; echo "56 passed, 1 failed"; exit 1 ;;
 "ci broken") echo "%s"; exit 2 ;;
+"ci bad") echo "rt: ok: 3 crates, must-fail edits: 9 refused, 1 bad"; echo "%s"; exit 0 ;;
 ci*) rm -rf target; echo "rt: ok"; echo "%s" ;;
 esac
-''' % (PASSED, PASSED)
+''' % (PASSED, PASSED, PASSED)
 TESTS = '#!/bin/sh\necho tests >>calls\n[ "$ACT" != tests ] || exit 1\necho "all passed"\n'
 
 
@@ -59,15 +59,15 @@ class Gate(Script):
             return done.returncode, done.stdout.splitlines()[-1], f.read().splitlines()
 
     def test_passes(self):
-        self.assertEqual(self.gate(''), (0, PASSED, ['rt fmt --check', 'rt ci', 'tests']))
+        self.assertEqual(self.gate(''), (0, PASSED, ['rt ci', 'tests']))
 
     def test_fails(self):
         ways = {
             'needs': ('FAILED: something that the tests need is missing', []),
-            'fmt': ('FAILED: rt fmt --check', ['rt fmt --check']),
-            'ci': ('FAILED: rt ci', ['rt fmt --check', 'rt ci']),
-            'broken': ('FAILED: rt ci', ['rt fmt --check', 'rt ci']),
-            'tests': ('FAILED: tests/run.sh', ['rt fmt --check', 'rt ci', 'tests']),
+            'ci': ('FAILED: rt ci', ['rt ci']),
+            'broken': ('FAILED: rt ci', ['rt ci']),
+            'bad': ('FAILED: a must-fail edit that cannot be read', ['rt ci']),
+            'tests': ('FAILED: tests/run.sh', ['rt ci', 'tests']),
         }
         for act, (last, calls) in ways.items():
             with self.subTest(act=act):
@@ -83,6 +83,7 @@ class Needs(Script):
         super().setUp()
         self.copy('tests/run.sh')
         self.copy('tests/needs.sh')
+        self.file('tools/build.sh', '#!/bin/sh\nexec rt "$@"\n')
         os.makedirs(os.path.join(self.folder, 'tool'))
         for name in ('bash', 'dirname', 'mkdir'):
             os.symlink(shutil.which(name), os.path.join(self.folder, 'tool', name))

@@ -191,7 +191,7 @@ class Lists(unittest.TestCase):
 
 
 class Program(unittest.TestCase):
-    """target/bin/cases, which rt check builds."""
+    """target/bin/cases, which tools/build.sh builds."""
 
     def printed(self, call, rows):
         """For each (book, K) the answer of a call, the costs and the bytes, in slices that are a little longer; each in a case of its own."""
