@@ -6,74 +6,60 @@ use Prim.Native.Nat.{◌≤◌}
 use native.Mathlib.Omega.{arith}
 use lib.IntN.{ℤ}
 use lib.ListN.{length, take, drop}
+use Rattle.model.specs.Calls.{over}
+use Rattle.model.specs.Model.{Words}
+use Rattle.model.specs.Questions.{first_no, book_number}
 use Rattle.bytes_io.specs.Slices.{written}
-use Rattle.model.specs.Questions.{book_number}
 use Rattle.reward_table.specs.Convert.{table_book}
-use Rattle.table_book.specs.Read.{Passed}
+use Rattle.reward_table.specs.Read.{TableRead}
+use Rattle.reward_table.specs.Table.{table_questions}
+use Rattle.reward_table.specs.declared.Table.{Table}
+use Rattle.table_book.specs.Read.{Passed, Made}
+use Rattle.table_book.specs.declared.Sizes.{Sizes}
 use Rattle.convert.proofs.Numbers.{of_book, table_passed, measured}
 use Rattle.convert.proofs.Numbers.{refusal, success, over_long, over-front, copied}
 use Rattle.convert.proofs.put_checked.Goals as goal
-use Rattle.convert.proofs.put_checked.Tie as tie
 
-abbrev start : tie.After-put_book → tie.Start
-start c = c.before.before
+module _ (t : Words) (z : Table) (s : Sizes) (ok : first_no table_questions t ≡ 0) (are : TableRead t z) (m : Made t s) where
+  passed : Passed t z
+  passed = table_passed _ ok are
 
-passed : (s : tie.Start) → Passed s.args.t.now s.args.z
-passed s = table_passed _ s.requires.0 s.requires.1
+  long : length (table_book t) ≡ s.length
+  long = measured passed m
 
-long : (s : tie.Start) → length (table_book s.args.t.now) ≡ s.args.s.length
-long s = measured (passed s) s.requires.2
+  -- the book stands at the front
+  module _ (b : List ℤ) {b' : List ℤ} (fits : s.length ≤ length b) (e : b' ≡ over (table_book t) b) where
+    made_long : length b' ≡ length b
+    made_long = ap length e ∙ over_long (table_book t) b (omega (arith, long, fits))
 
-room : (s : tie.Start) → length (table_book s.args.t.now) ≤ length s.args.out.now
-room s = omega (arith, long s, s.requires.4)
+    front : take s.length b' ≡ table_book t
+    front = ap (take s.length) e ∙ over-front (table_book t) b _ long
 
--- the book stands at the front
-made_long : (c : tie.After-put_book) → length c.put_book.new.1.1.1.0 ≡ length (start c).args.book.now
-made_long c =
-    let s = start c in
-    ap length c.put_book.ensures ∙ over_long (table_book s.args.t.now) s.args.book.now (omega (arith, long s, s.requires.3))
-
-front : (c : tie.After-put_book) → take (start c).args.s.length c.put_book.new.1.1.1.0 ≡ table_book (start c).args.t.now
-front c =
-    let s = start c in
-    ap (take s.args.s.length) c.put_book.ensures ∙ over-front (table_book s.args.t.now) s.args.book.now _ (long s)
-
-front_long : (c : tie.After-put_book) → length (take (start c).args.s.length c.put_book.new.1.1.1.0) ≡ (start c).args.s.length
-front_long c = ap length (front c) ∙ long (start c)
-
--- and was asked its own questions
-checked : (c : tie.After-check) → c.check-no.result ≡ book_number (table_book (start c).args.t.now)
-checked c = c.check-no.ensures ∙ ap book_number (front c.before.before)
+    front_long : length (take s.length b') ≡ s.length
+    front_long = ap length front ∙ long
 
 pub put_book-requires : goal.put_book-requires
-put_book-requires c = let s = c.before.before in (passed s, s.requires.2, s.requires.3)
-
-pub slice_bounds-check-end-2 : goal.slice_bounds-check-end-2
-slice_bounds-check-end-2 c = sym (front_long c.before.before)
+put_book-requires c = (passed _ _ _ c.requires.0 c.requires.1 c.requires.2, c.requires.2, c.requires.3)
 
 pub returns-then-no-ne0 : goal.returns-then-no-ne0
 returns-then-no-ne0 c =
-    let e = c in
-    let k = e in
-    let s = start k in
-    refusal _ _ _ (of_book _ _ s.requires.0 (room s) (checked k.before.before.before)) e.if-no-ne0.true _ c.refused.ensures
-
-pub slice_bounds-copy-end-2 : goal.slice_bounds-copy-end-2
-slice_bounds-copy-end-2 c = sym (front_long c.before.before.before.before)
+    let q = c.requires in
+    let l = long _ _ _ q.0 q.1 q.2 in
+    let k = c.check-no.ensures ∙ ap book_number (front _ _ _ q.0 q.1 q.2 _ q.3 c.put_book.ensures) in
+    refusal _ _ _ (of_book _ _ q.0 (omega (arith, l, q.4)) k) c.if-no-ne0.true _ c.refused.ensures
 
 pub copy-requires : goal.copy-requires
 copy-requires c =
-    let b = c.before.before.before.before.before in
-    (omega (arith, front_long b), omega (arith, (start b).requires.4))
+    let q = c.requires in
+    (omega (arith, front_long _ _ _ q.0 q.1 q.2 _ q.3 c.put_book.ensures), omega (arith, q.4))
 
 pub returns : goal.returns
 returns c =
-    let p = c in
-    let f = p in
-    let k = f in
-    let s = start k in
-    let t = s.args.t.now in
-    success t s.args.out.now _ (of_book t _ s.requires.0 (room s) (sym f.if-no-ne0.false ∙ checked k.before.before.before.before.before)) _ (sym (long s))
-    (p.copy.ensures
-    ∙ ap (λ (xs : List ℤ). written s.args.out.now 0 s.args.s.length (take s.args.s.length (drop 0 xs))) (front k.before.before.before.before.before.before.before)
-    ∙ copied (table_book t) s.args.out.now _ (long s))
+    let q = c.requires in
+    let t = c.args.t.now in
+    let n = c.args.s.length in
+    let o = c.args.out.now in
+    let l = long _ _ _ q.0 q.1 q.2 in
+    let f = front _ _ _ q.0 q.1 q.2 _ q.3 c.put_book.ensures in
+    success t o _ (of_book t _ q.0 (omega (arith, l, q.4)) (sym c.if-no-ne0.false ∙ c.check-no.ensures ∙ ap book_number f)) _ (sym l)
+    (c.copy.ensures ∙ ap (λ (xs : List ℤ). written o 0 n (take n (drop 0 xs))) f ∙ copied (table_book t) o _ l)
