@@ -3,11 +3,9 @@
 use mathlib.Core.Path.{◌≡◌, sym, ◌∙◌}
 use Prim.Native.Nat.{ℕ}
 use native.Mathlib.Omega.{arith}
-use lib.ListN.{length}
 use Rattle.model.specs.Model.{Words}
 use Rattle.model.specs.Questions.{first_no}
 use Rattle.reward_table.specs.Table.{table_questions}
-use Rattle.reward_table.specs.Convert.{table_book}
 use Rattle.convert.proofs.Numbers.{too_many_lines, too_many_states, of_table, of_room, of_book, table_given, table_passed, measured, short, refusal}
 use Rattle.convert.proofs.convert.Goals as goal
 
