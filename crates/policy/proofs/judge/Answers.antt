@@ -1,11 +1,10 @@
 -- Assumes nothing.
-use mathlib.Core.Path.{◌≡◌, sym, ap, ap₂, ◌∙◌, subst}
-use mathlib.Core.Bool.{true, false, not, true≢false}
+use mathlib.Core.Path.{◌≡◌, sym, ap, ◌∙◌, subst}
+use mathlib.Core.Bool.{true, not, true≢false}
 use lib.Dec.{eqb}
 use borrow.Author.Tests.{ne_eqb}
-use Prim.Native.Nat.{ℕ, ◌+◌, ◌*◌, ◌<◌}
+use Prim.Native.Nat.{ℕ, ◌+◌, ◌<◌}
 use native.Mathlib.Omega.{arith}
-use lib.IntN.{ℤ, pos, ◌+ℤ◌, ◌*ℤ◌}
 use lib.ListN.{get_or}
 use Rattle.model.specs.Lists.{is_in}
 use Rattle.model.specs.Model.{Words, first_state, state_count, action, options}
@@ -16,7 +15,7 @@ use Rattle.book.proofs.Stages.{for_stage}
 use Rattle.costs.proofs.Sums.{read64}
 use Rattle.reach.specs.Weights.{weight_at, Holds}
 use Rattle.policy.proofs.Pass.{weighs, wrong_length, byte_refused, byte-action, room}
-use Rattle.policy.proofs.Walk.{Walk, begin, finished, small, fits, reached_on, unreached_on}
+use Rattle.policy.proofs.Walk.{begin, finished, small, fits, reached_on, unreached_on}
 use Rattle.policy.proofs.judge.Goals as goal
 use Rattle.policy.proofs.judge.Goals.{In-loop-p, Else-not-byte_allowed, then-reached, else-reached}
 
@@ -93,7 +92,7 @@ loop-p-preserved c =
     let t = (goal.at.loop-p-preserved c).In-loop-p in
     let f = fit (goal.at.loop-p-preserved c).Else-not-byte_allowed in
     elim c.if-reached.branch [
-      then-reached w ↦
+      | then-reached w ↦
           reached_on t.loop-p.invariant (inside t) f c.stage_for-t.result c.stage_for-t.ensures c.find-f.result.after c.find-f.ensures.after_is c.if-reached.w
           (subst (λ v. Holds v (spread (weight_at c.loop-p.w (p t)) (action (ws t) (p t) (byte t)).transitions (weight_at c.loop-p.w))) (sym w.w-is) w.spread_lines.ensures)
           _
