@@ -1,6 +1,6 @@
 -- Assumes nothing.
 use mathlib.Core.Path.{◌≡◌, sym, ap, ◌∙◌, subst}
-use Prim.Native.Nat.{ℕ, ◌+◌, ◌-◌, ◌<◌, ◌≤◌}
+use Prim.Native.Nat.{ℕ, ◌+◌, ◌<◌, ◌≤◌}
 use native.Mathlib.Omega.{arith}
 use mathlib.Core.List.{List}
 use lib.IntN.{ℤ}
@@ -100,10 +100,10 @@ loop-p-preserved c =
       c.loop-p.invariant.0,
       omega (arith, state a),
       elim c.if-k-gt1.branch [
-        then-k-gt1 t ↦
+        | then-k-gt1 t ↦
             subst (Found w c.args.k (p + 1)) (sym t.best-is)
             (found_two w c.args.k p one m xs (omega (arith, state a, c.loop-p.invariant.0)) old (first a) (leaves a) t.second_best-d.result t.if-k-gt1.true (t.second_best-d.ensures ∙ second a))
-      | else-k-gt1 t ↦
+        | else-k-gt1 t ↦
             subst (Found w c.args.k (p + 1)) (sym t.best-is)
             (found_one w c.args.k p one m xs (omega (arith, state a, c.loop-p.invariant.0)) old (first a) (leaves a) (λ j. omega arith))
       ],

@@ -1,12 +1,7 @@
 -- The first s states are passed.
 -- Assumes nothing.
-use mathlib.Core.Path.{◌≡◌, subst}
-use Prim.Native.Nat.{ℕ, ◌≤◌, ◌-◌}
-use native.Mathlib.Omega.{arith}
-use Rattle.accepted.specs.Facts.{accepted}
+use Prim.Native.Nat.{◌≤◌, ◌-◌}
 use Rattle.build.specs.Walk.{Passed}
-use Rattle.sets.specs.Sets.{first-set}
-use Rattle.build.proofs.Prefix.{passed_none}
 use Rattle.build.proofs.reached_before.Given as goal
 
 abbrev pub invariant-loop-s : goal.invariant-loop-s
