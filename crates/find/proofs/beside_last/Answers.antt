@@ -56,7 +56,7 @@ returns-then-last-cost c =
 -- the state as the machine holds it
 module _ (c : goal.After-first_difference-p) where
   abbrev p : ℕ
-  p = c.first_difference.result
+  p = c.first_difference-p.result
 
   below : p < 2 ^ 63
   below = search rules
@@ -73,7 +73,7 @@ returns c =
     let e = higher s (rw (to_z-of_z s.ranges.cost, to_z-of_z s.ranges.last) at c.if-last-cost.false) in
     let front = take (length s.args.plan.now) (drop s.args.at s.args.plans.now) in
     let whole = take_all (length s.args.plan.now) s.args.plan.now (omega arith) in
-    let first = ap pos (c.first_difference.ensures.0 ∙ ap (first_difference front) whole) in
+    let first = ap pos (c.first_difference-p.ensures.0 ∙ ap (first_difference front) whole) in
     record { accepted = refl; number = sym (ap answer_number e); figure = to_z-of_z (state_fits c) ∙ state c ∙ first ∙ sym (ap answer_value e) }
 
 pub overflow_add-result : goal.overflow_add-result

@@ -2,7 +2,7 @@
 use mathlib.Core.Path.{◌≡◌, sym, ap, ◌∙◌}
 use mathlib.Core.Bool.{true, false}
 use mathlib.Core.List.{List, ◌∷◌}
-use Prim.Native.Nat.{ℕ, suc, ◌+◌, ◌-◌, ◌*◌, ◌≤◌}
+use Prim.Native.Nat.{ℕ, suc, ◌+◌, ◌-◌, ◌*◌, ◌≤◌, ◌<◌}
 use native.Mathlib.Nat.{zero-add}
 use native.Mathlib.Omega.{arith}
 use borrow.Author.Tests.{le-leb, lt-leb}
@@ -16,7 +16,6 @@ use Rattle.record.specs.Parts.{parts, parts-left, part-inside}
 use Rattle.path_sums.specs.Books.{most_over}
 use Rattle.marked.specs.Kept.{by_most}
 use Rattle.limit.proofs.above_kept.Goals as goal
-use Rattle.limit.proofs.above_kept.Tie as tie
 
 module _ (ws : Words) (limit : Limit) (p : Policy) (ps : List Policy) where
   found : keeps_limit ws limit p ≡ true → first_where (keeps_limit ws limit) (p ∷ ps) ≡ 0
@@ -32,76 +31,66 @@ loop-i-init c =
     (omega arith, rw e (sym (zero-add _)))
 
 -- part i
-module _ (t : tie.In-loop goal.the-invariant-loop-i goal.the-decreases-loop-i) where
-  abbrev l : tie.In-loop goal.the-invariant-loop-i goal.the-decreases-loop-i
-  l = t
-
-  abbrev s : tie.In-loop goal.the-invariant-loop-i goal.the-decreases-loop-i
-  s = t
-
-  abbrev ws : Words
-  ws = s.args.b.now
-
-  abbrev limit : Limit
-  limit = limit_of s.args.marks.now s.args.m
-
-  abbrev i : ℕ
-  i = l.loop-i.i
-
+module _ (ws : Words) (limit : Limit) (plans : List ℕ) (n i : ℕ) (here : i < n) where
   abbrev part : Policy
-  part = take (state_count ws) (drop (i * state_count ws) s.args.plans.now)
+  part = take (state_count ws) (drop (i * state_count ws) plans)
 
   abbrev rest : List Policy
-  rest = parts s.args.plans.now (state_count ws) (i + 1) (s.args.n - (i + 1))
+  rest = parts plans (state_count ws) (i + 1) (n - (i + 1))
 
-  states : s.args.z.s ≡ state_count ws
-  states = s.requires.0.checked.sizes.s_is
+  -- it was looked at
+  keeps : (s most : ℕ) → s ≡ state_count ws
+      → most ≡ most_over ws (mark_of ws limit.marks) (take (state_count ws) (drop (i * s) plans)) → keeps_limit ws limit part ≡ leb most limit.most
+  keeps s most states e =
+      by_most ws limit part
+      ∙ ap (λ (n : ℕ). leb n limit.most)
+      (sym (e ∙ ap (λ (n : ℕ). most_over ws (mark_of ws limit.marks) (take (state_count ws) (drop (i * n) plans))) states))
 
-  inside : i * state_count ws + state_count ws ≤ length s.args.plans.now
-  inside = part-inside i s.args.n (state_count ws) (length s.args.plans.now) t.loop-i-test.true s.requires.2
+  left : first_where (keeps_limit ws limit) (parts plans (state_count ws) 0 n) ≡ i + first_where (keeps_limit ws limit) (parts plans (state_count ws) i (n - i))
+      → first_where (keeps_limit ws limit) (parts plans (state_count ws) 0 n) ≡ i + first_where (keeps_limit ws limit) (part ∷ rest)
+  left h = h ∙ ap (λ (ps : List Policy). i + first_where (keeps_limit ws limit) ps) (parts-left plans (state_count ws) i n here)
 
 pub overflow_mul-i : goal.overflow_mul-i
 overflow_mul-i c =
-    let e = ap (λ (n : ℕ). i c.before * n) (states c.before) in
-    omega (arith, inside c.before, e, (l c.before), (l c.before))
+    let e = ap (λ (n : ℕ). c.loop-i.i * n) c.requires.0.checked.sizes.s_is in
+    omega (arith, part-inside c.loop-i.i c.args.n (state_count c.args.b.now) (length c.args.plans.now) c.loop-i-test.true c.requires.2, e)
 
 pub most-requires : goal.most-requires
 most-requires c =
-    let e = ap (λ (n : ℕ). i c.before * n) (states c.before) in
-    ((s c.before).requires.0, (s c.before).requires.1, omega (arith, inside c.before, e))
-
--- it was looked at
-module _ (c : tie.After-most goal.the-invariant-loop-i goal.the-decreases-loop-i) where
-  abbrev t : tie.After-most goal.the-invariant-loop-i goal.the-decreases-loop-i
-  t = c
-
-  most_is : c.most.result ≡ most_over (ws t.before) (mark_of (ws t.before) (s t.before).args.marks.now) (part t.before)
-  most_is =
-      c.most.ensures
-      ∙ ap (λ (n : ℕ). most_over (ws t.before) (mark_of (ws t.before) (s t.before).args.marks.now) (take (state_count (ws t.before)) (drop (i t.before * n) (s t.before).args.plans.now))) (states t.before)
-
-  keeps : keeps_limit (ws t.before) (limit t.before) (part t.before) ≡ leb c.most.result (s t.before).args.m
-  keeps = by_most (ws t.before) (limit t.before) (part t.before) ∙ ap (λ (n : ℕ). leb n (s t.before).args.m) (sym most_is)
-
-  left : first_where (keeps_limit (ws t.before) (limit t.before)) (parts (s t.before).args.plans.now (state_count (ws t.before)) 0 (s t.before).args.n)
-      ≡ i t.before + first_where (keeps_limit (ws t.before) (limit t.before)) (part t.before ∷ rest t.before)
-  left =
-      (l t.before).loop-i.invariant.1
-      ∙ ap (λ (ps : List Policy). i t.before + first_where (keeps_limit (ws t.before) (limit t.before)) ps)
-      (parts-left (s t.before).args.plans.now (state_count (ws t.before)) (i t.before) (s t.before).args.n t.loop-i-test.true)
+    let e = ap (λ (n : ℕ). c.loop-i.i * n) c.requires.0.checked.sizes.s_is in (
+      c.requires.0,
+      c.requires.1,
+      omega (arith, part-inside c.loop-i.i c.args.n (state_count c.args.b.now) (length c.args.plans.now) c.loop-i-test.true c.requires.2, e),
+    )
 
 pub returns-then-most-m : goal.returns-then-most-m
 returns-then-most-m c =
-    let d = c.before.before in
-    let u = t d in
-    omega (arith, left d, found (ws u.before.before) (limit u.before.before) (part u.before.before) (rest u.before.before) (keeps d ∙ le-leb d.most.result (s u.before.before).args.m c.if-most-m.true))
+    let ws = c.args.b.now in
+    let limit = limit_of c.args.marks.now c.args.m in
+    let plans = c.args.plans.now in
+    let h = c.loop-i-test.true in
+    let k = keeps ws limit plans c.args.n c.loop-i.i h c.args.z.s c.most.result c.requires.0.checked.sizes.s_is c.most.ensures in
+    omega (
+      arith,
+      left ws limit plans c.args.n c.loop-i.i h c.loop-i.invariant.1,
+      found ws limit (part ws limit plans c.args.n c.loop-i.i h) (rest ws limit plans c.args.n c.loop-i.i h)
+          (k ∙ le-leb c.most.result c.args.m c.if-most-m.true),
+    )
 
 pub loop-i-preserved : goal.loop-i-preserved
 loop-i-preserved c =
-    let d = c.before.before in
-    let u = t d in (
-      omega (arith, u.loop-i-test.true),
-      omega (arith, left d, other (ws u.before.before) (limit u.before.before) (part u.before.before) (rest u.before.before) (keeps d ∙ lt-leb d.most.result (s u.before.before).args.m (omega (arith, c.if-most-m.false)))),
+    let ws = c.args.b.now in
+    let limit = limit_of c.args.marks.now c.args.m in
+    let plans = c.args.plans.now in
+    let h = c.loop-i-test.true in
+    let k = keeps ws limit plans c.args.n c.loop-i.i h c.args.z.s c.most.result c.requires.0.checked.sizes.s_is c.most.ensures in (
+      omega arith,
+      omega (
+        arith,
+        left ws limit plans c.args.n c.loop-i.i h c.loop-i.invariant.1,
+        other ws limit (part ws limit plans c.args.n c.loop-i.i h) (rest ws limit plans c.args.n c.loop-i.i h)
+            (k ∙ lt-leb c.most.result c.args.m (omega arith)),
+      ),
     )
 
 pub returns : goal.returns
