@@ -21,7 +21,6 @@ use Rattle.rank_small.specs.Small.{RoomFor}
 use Rattle.rank_small.specs.Through.{best_of_first, best_few, held_ascends, best-more, best_wide, best_none, best-all}
 use Rattle.rank_small.proofs.go_through.Invariants.{Gone}
 use Rattle.rank_small.proofs.go_through.Goals as goal
-use Rattle.rank_small.proofs.go_through.Tie as tie
 
 pub first-requires : goal.first-requires
 first-requires c =
@@ -46,95 +45,67 @@ loop-more-init c =
     }
 
 -- at the head of the loop
-module _ (l : tie.At-loop goal.the-invariant-loop-more goal.the-decreases-loop-more) where
-  abbrev s : tie.At-loop goal.the-invariant-loop-more goal.the-decreases-loop-more
-  s = l
+few : (ws : Words) (k j n : ℕ) (costs₀ costs : List ℤ) (plans₀ plans : List ℕ) → Holds (policy_cost ws) (best_of_first ws k j) n costs₀ costs plans₀ plans → n ≤ k
+few ws k j n costs₀ costs plans₀ plans h = omega (arith, h.count, best_few ws k j)
 
-  abbrev ws : Words
-  ws = s.args.b.now
-
-  ok : book_number ws ≡ 0
-  ok = s.requires.0.checked.ok
-
-  few : l.loop-more.n ≤ s.args.k
-  few = omega (arith, l.loop-more.invariant.holds.count, best_few ws s.args.k l.loop-more.j)
-
-  room : RoomFor ws s.args.k l.loop-more.costs l.loop-more.plans
-  room =
-      let r = s.requires.5 in
-      record {
-        low = r.low;
-        high = r.high;
-        costs_room = omega (arith, r.costs_room, l.loop-more.invariant.costs_long);
-        plans_room = omega (arith, r.plans_room, l.loop-more.invariant.plans_long);
-      }
+room : {ws : Words} {k : ℕ} (costs₀ costs : List ℤ) (plans₀ plans : List ℕ) → RoomFor ws k costs₀ plans₀ → length costs ≡ length costs₀ → length plans ≡ length plans₀
+    → RoomFor ws k costs plans
+room costs₀ costs plans₀ plans r e f = record {
+  low = r.low;
+  high = r.high;
+  costs_room = omega (arith, r.costs_room, e);
+  plans_room = omega (arith, r.plans_room, f);
+}
 
 -- a policy is at hand
-module _ (t : tie.In-loop goal.the-invariant-loop-more goal.the-decreases-loop-more) where
-  abbrev l : tie.In-loop goal.the-invariant-loop-more goal.the-decreases-loop-more
-  l = t
-
-  is_at : get_elem? (policies (ws l.before)) l.loop-more.j ≡ some l.loop-more.plan
-  is_at = l.loop-more.invariant.at t.loop-more-test.true
-
-  left : l.loop-more.j < length (policies (ws l.before))
-  left = at_low (policies (ws l.before)) l.loop-more.j l.loop-more.plan is_at
-
 pub join-n-requires : goal.join-n-requires
 join-n-requires c =
-    let t = c in
-    let l = t.before.before.before.before in (
-      (s l).requires.0,
-      room l,
-      few l,
-      (l.loop-more.invariant.stands t.loop-more-test.true).is,
-      held_ascends (ws l) (ok l) (s l).args.k l.loop-more.j l.loop-more.n (s l).args.costs.now l.loop-more.costs (s l).args.plans.now l.loop-more.plans l.loop-more.invariant.holds,
+    let i = c.loop-more.invariant in (
+      c.requires.0,
+      room c.args.costs.now c.loop-more.costs c.args.plans.now c.loop-more.plans c.requires.5 i.costs_long i.plans_long,
+      few c.args.b.now c.args.k c.loop-more.j c.loop-more.n c.args.costs.now c.loop-more.costs c.args.plans.now c.loop-more.plans i.holds,
+      (i.stands c.loop-more-test.true).is,
+      held_ascends c.args.b.now c.requires.0.checked.ok c.args.k c.loop-more.j c.loop-more.n c.args.costs.now c.loop-more.costs c.args.plans.now c.loop-more.plans
+          i.holds,
     )
 
 pub next-more-requires : goal.next-more-requires
-next-more-requires c =
-    let t = c in
-    let l = t.before.before.before.before.before.before.before.before.before.before in
-    ((s l).requires.0, (s l).requires.1, l.loop-more.invariant.stands t.loop-more-test.true)
+next-more-requires c = (c.requires.0, c.requires.1, c.loop-more.invariant.stands c.loop-more-test.true)
 
 pub overflow_add-j : goal.overflow_add-j
 overflow_add-j c =
-    let t = c in
-    omega (arith, left t.before.before.before.before.before.before.before.before.before.before.before.before, (s t.before.before.before.before.before.before.before.before.before.before.before.before.before).requires.3)
+    omega (arith, at_low (policies c.args.b.now) c.loop-more.j c.loop-more.plan (c.loop-more.invariant.at c.loop-more-test.true), c.requires.3)
 
 pub loop-more-smaller : goal.loop-more-smaller
-loop-more-smaller c =
-    let t = c.before.before.before.before.before.before.before.before.before.before.before.before in
-    omega (arith, left t)
+loop-more-smaller c = omega (arith, at_low (policies c.args.b.now) c.loop-more.j c.loop-more.plan (c.loop-more.invariant.at c.loop-more-test.true))
 
 pub loop-more-preserved : goal.loop-more-preserved
 loop-more-preserved c =
-    let f = c in
-    let a = f in
-    let t = a in
-    let l = t.before.before.before.before.before.before.before.before.before.before.before.before.before in
-    let i = l.loop-more.invariant in
-    let w = ws l in
-    let k = (s l).args.k in
-    let j = l.loop-more.j in
-    let bs = l.loop-more.plan in
-    let costs = a.join-n.new.1.1.1.1.1.1.0 in
-    let plans = a.join-n.new.1.1.1.1.1.1.1.0 in
+    let i = c.loop-more.invariant in
+    let w = c.args.b.now in
+    let ok = c.requires.0.checked.ok in
+    let k = c.args.k in
+    let j = c.loop-more.j in
+    let bs = c.loop-more.plan in
+    let is_at = i.at c.loop-more-test.true in
+    let costs = c.join-n.new.costs in
+    let plans = c.join-n.new.plans in
     record {
       long = omega (arith, i.long);
       costs_long = omega (arith, i.costs_long);
       plans_long = omega (arith, i.plans_long);
-      stands = f.next-more.ensures.stands;
-      at = λ e. rw add-one (next_at_lem w (ok l) (s l).requires.2 j bs (is_at t.before.before.before.before.before.before.before.before.before.before.before.before) _ _ _ f.next-more.ensures e);
-      ended = λ e. last_at w (ok l) (s l).requires.2 j bs (is_at t.before.before.before.before.before.before.before.before.before.before.before.before) _ _ _ f.next-more.ensures e ∙ sym (add-one j);
-      holds = subst (λ (ps : List Policy). Holds (policy_cost w) ps a.join-n.result (s l).args.costs.now costs (s l).args.plans.now plans)
-          (sym (best-more w (ok l) k j bs (is_at t.before.before.before.before.before.before.before.before.before.before.before.before)))
-          (kept_holds (policy_cost w) (best_of_first w k j) bs l.loop-more.n k a.join-n.result (s l).args.costs.now l.loop-more.costs costs (s l).args.plans.now l.loop-more.plans plans
-          i.holds a.join-n.ensures (room l).low (few l) (best_wide w (ok l) k j bs (is_at t.before.before.before.before.before.before.before.before.before.before.before.before)));
+      stands = c.next-more.ensures.stands;
+      at = λ e. rw add-one (next_at_lem w ok c.requires.2 j bs is_at _ _ _ c.next-more.ensures e);
+      ended = λ e. last_at w ok c.requires.2 j bs is_at _ _ _ c.next-more.ensures e ∙ sym (add-one j);
+      holds = subst (λ (ps : List Policy). Holds (policy_cost w) ps c.join-n.result c.args.costs.now costs c.args.plans.now plans)
+          (sym (best-more w ok k j bs is_at))
+          (kept_holds (policy_cost w) (best_of_first w k j) bs c.loop-more.n k c.join-n.result c.args.costs.now c.loop-more.costs costs c.args.plans.now
+          c.loop-more.plans plans i.holds c.join-n.ensures c.requires.5.low
+          (few w k j c.loop-more.n c.args.costs.now c.loop-more.costs c.args.plans.now c.loop-more.plans i.holds) (best_wide w ok k j bs is_at));
     }
 
 pub shape_of-plan : goal.shape_of-plan
-shape_of-plan c = let l = c.before.before in l.loop-more.invariant.long ∙ sym (s l).requires.4
+shape_of-plan c = c.loop-more.invariant.long ∙ sym c.requires.4
 
 pub shape_of-costs : goal.shape_of-costs
 shape_of-costs c = c.loop-more.invariant.costs_long
@@ -144,6 +115,5 @@ shape_of-plans c = c.loop-more.invariant.plans_long
 
 pub returns : goal.returns
 returns c =
-    let l = c.before.before in
-    subst (λ (ps : List Policy). Holds (policy_cost (ws l)) ps l.loop-more.n (s l).args.costs.now l.loop-more.costs (s l).args.plans.now l.loop-more.plans)
-    (best-all (ws l) (s l).args.k l.loop-more.j (omega (arith, l.loop-more.invariant.ended c.loop-more-test.false))) l.loop-more.invariant.holds
+    subst (λ (ps : List Policy). Holds (policy_cost c.args.b.now) ps c.loop-more.n c.args.costs.now c.loop-more.costs c.args.plans.now c.loop-more.plans)
+    (best-all c.args.b.now c.args.k c.loop-more.j (omega (arith, c.loop-more.invariant.ended c.loop-more-test.false))) c.loop-more.invariant.holds

@@ -23,13 +23,13 @@ use Rattle.rank_small.specs.Through.{best_of_first, best_few, held_ascends, best
 use Rattle.rank_small.proofs.go_through.Given as goal
 
 pub record Gone (ws : Words) (k : ℕ) (costs₀ : List ℤ) (plans₀ : List ℕ) (plan : Policy) (costs : List ℤ) (plans reach : List ℕ) (n j : ℕ) (more : Bool) : Type 0 where
-  long : length plan ≡ state_count ws
-  costs_long : length costs ≡ length costs₀
-  plans_long : length plans ≡ length plans₀
-  stands : more ≡ true → Stands ws plan reach
-  at : more ≡ true → get_elem? (policies ws) j ≡ some plan
-  ended : more ≡ false → length (policies ws) ≡ j
-  holds : Holds (policy_cost ws) (best_of_first ws k j) n costs₀ costs plans₀ plans
+  pub long : length plan ≡ state_count ws
+  pub costs_long : length costs ≡ length costs₀
+  pub plans_long : length plans ≡ length plans₀
+  pub stands : more ≡ true → Stands ws plan reach
+  pub at : more ≡ true → get_elem? (policies ws) j ≡ some plan
+  pub ended : more ≡ false → length (policies ws) ≡ j
+  pub holds : Holds (policy_cost ws) (best_of_first ws k j) n costs₀ costs plans₀ plans
 
 abbrev pub invariant-loop-more : goal.invariant-loop-more
 invariant-loop-more l = Gone l.b l.k l.initial.costs l.initial.plans l.plan l.costs l.plans l.reach l.n l.j l.more

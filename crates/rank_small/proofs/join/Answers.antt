@@ -5,10 +5,13 @@ use Prim.Native.Nat.{ℕ, ◌*◌, ◌≤◌}
 use native.Mathlib.Omega.{arith}
 use lib.IntN.{ℤ}
 use lib.ListN.{length}
+use mir.Syntax.{w64}
+use mir.Val.{SFits}
+use mir.Facts.{to_z-of_z}
+use borrow.Author.Rules.{rules}
 use Rattle.model.specs.Model.{state_count}
 use Rattle.accepted.specs.Shape.{shape}
 use Rattle.accepted.specs.Demands.{policy-bytes}
-use Rattle.costs.proofs.Sums.{read64}
 use Rattle.best_kept.specs.Placed.{Placed}
 use Rattle.rank_small.proofs.join.Goals as goal
 use Rattle.rank_small.proofs.join.Goals.{Start}
@@ -33,11 +36,6 @@ keep-requires c =
 
 pub returns : goal.returns
 returns c =
-    let k = c in
-    let j = k in
-    let s = j in
-    let ws = s.args.b.now in
-    let bs = s.args.plan.now in
-    let z = j.cost-cost.result in
-    subst (λ (y : ℤ). Placed s.args.n s.args.k y bs k.keep.result s.args.costs.now k.keep.new.0 s.args.plans.now k.keep.new.1.0)
-    (read64 z j.cost-cost.type-inv ∙ j.cost-cost.ensures) k.keep.ensures
+    let f : SFits w64 c.cost-cost.result = search rules in
+    subst (λ (y : ℤ). Placed c.args.n c.args.k y c.args.plan.now c.keep.result c.args.costs.now c.keep.new.costs c.args.plans.now c.keep.new.plans)
+    (to_z-of_z {w = w64} f ∙ c.cost-cost.ensures) c.keep.ensures
