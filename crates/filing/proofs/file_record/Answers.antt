@@ -17,6 +17,8 @@ use Rattle.asked.specs.Asked.{asked_says}
 use Rattle.record.specs.Lengths.{record_most}
 use Rattle.text.specs.Text.{Appended}
 use Rattle.page_lines.specs.Put.{Put, too_short, put_refused, put_due, put_same}
+use Rattle.input.specs.declared.Input.{Input}
+use Rattle.input.specs.Read.{Read}
 use Rattle.filing.proofs.file_record.Goals as goal
 
 module _ (ws : Words) (k : ℕ) (out : List ℕ) (h : most_record ≤ length out) where
@@ -48,23 +50,16 @@ pub returns-then-out-lt-MOST_RECORD : goal.returns-then-out-lt-MOST_RECORD
 returns-then-out-lt-MOST_RECORD c = too_short most_record _ _ c.if-out-lt-MOST_RECORD.true
 
 -- the record of what was read is that of the input
-of_input : (c : goal.After-read-q) {out out' : List ℕ} {r : ℕ} →
-    let q = c.read-q.result in
-    Put most_record (or_refused (asked_number (take q.n q.words) q.k) (record_bytes (take q.n q.words) q.k)) out out' r
-    → Put most_record (filed c.args.input.now) out out' r
+of_input : {input out out' : List ℕ} {q : Input} {r : ℕ} → Read input q
+    → Put most_record (or_refused (asked_number (take q.n q.words) q.k) (record_bytes (take q.n q.words) q.k)) out out' r
+    → Put most_record (filed input) out out' r
 unfolding filed
-of_input c = let h = c.read-q.ensures in put_same h.number (λ z. ap₂ record_bytes (h.words z) (h.count z))
+of_input h = put_same h.number (λ z. ap₂ record_bytes (h.words z) (h.count z))
 
 pub returns-then-w-ne0 : goal.returns-then-w-ne0
 returns-then-w-ne0 c =
-    let y = c in
-    let t = y in
-    let w = t in
-    let d = w in
-    of_input d (refused _ _ _ (omega arith) w.write-w.ensures.0 t.if-w-ne0.true w.write-w.ensures.2 y.put_refused.ensures)
+    of_input c.read-q.ensures (refused _ _ _ (omega arith) c.write-w.ensures.0 c.if-w-ne0.true c.write-w.ensures.2 c.put_refused.ensures)
 
 pub returns : goal.returns
 returns c =
-    let w = c in
-    let d = w in
-    of_input d (written _ _ _ (omega arith) w.write-w.ensures.0 c.if-w-ne0.false w.write-w.ensures.1 w.write-w.ensures.2)
+    of_input c.read-q.ensures (written _ _ _ (omega arith) c.write-w.ensures.0 c.if-w-ne0.false c.write-w.ensures.1 c.write-w.ensures.2)
