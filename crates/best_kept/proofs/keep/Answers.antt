@@ -10,8 +10,6 @@ use borrow.Author.Tests.{ltb-true}
 use lib.Dec.{ltb}
 use lib.IntN.{ℤ}
 use lib.Signed.{lt_z}
-use mir.Syntax.{w64}
-use mir.Val.{to_z, of_z}
 use lib.ListN.{length, take}
 use lib.Seq.{length-take-le}
 use Rattle.std.proofs.lemmas.Int.{to_z-of_z}
@@ -76,7 +74,7 @@ open_costs-requires c =
     let f = c.ranges.cost in
     let e = simp to_z-of_z at c.place-i.ensures in
     let g = goes c.args.costs.now c.args.n c.args.k c.args.cost c.place-i.result c.last_place-last.result (length c.args.plan.now) (length c.args.plans.now)
-        c.requires.0 c.requires.1 c.requires.3 c.requires.4 e c.last_place-last.ensures c.if-k-i.false in
+    c.requires.0 c.requires.1 c.requires.3 c.requires.4 e c.last_place-last.ensures c.if-k-i.false in
     (g.high, omega arith, omega arith)
 
 pub overflow_mul-i : goal.overflow_mul-i
@@ -84,7 +82,7 @@ overflow_mul-i c =
     let f = c.ranges.cost in
     let e = simp to_z-of_z at c.place-i.ensures in
     let g = goes c.args.costs.now c.args.n c.args.k c.args.cost c.place-i.result c.last_place-last.result (length c.args.plan.now) (length c.args.plans.now)
-        c.requires.0 c.requires.1 c.requires.3 c.requires.4 e c.last_place-last.ensures c.if-k-i.false in
+    c.requires.0 c.requires.1 c.requires.3 c.requires.4 e c.last_place-last.ensures c.if-k-i.false in
     search rules
 
 pub overflow_mul-last : goal.overflow_mul-last
@@ -92,7 +90,7 @@ overflow_mul-last c =
     let f = c.ranges.cost in
     let e = simp to_z-of_z at c.place-i.ensures in
     let g = goes c.args.costs.now c.args.n c.args.k c.args.cost c.place-i.result c.last_place-last.result (length c.args.plan.now) (length c.args.plans.now)
-        c.requires.0 c.requires.1 c.requires.3 c.requires.4 e c.last_place-last.ensures c.if-k-i.false in
+    c.requires.0 c.requires.1 c.requires.3 c.requires.4 e c.last_place-last.ensures c.if-k-i.false in
     search rules
 
 pub open_plans-requires : goal.open_plans-requires
@@ -100,7 +98,7 @@ open_plans-requires c =
     let f = c.ranges.cost in
     let e = simp to_z-of_z at c.place-i.ensures in
     let g = goes c.args.costs.now c.args.n c.args.k c.args.cost c.place-i.result c.last_place-last.result (length c.args.plan.now) (length c.args.plans.now)
-        c.requires.0 c.requires.1 c.requires.3 c.requires.4 e c.last_place-last.ensures c.if-k-i.false in
+    c.requires.0 c.requires.1 c.requires.3 c.requires.4 e c.last_place-last.ensures c.if-k-i.false in
     (g.before, g.roomy, c.requires.5)
 
 pub overflow_add-result : goal.overflow_add-result
@@ -108,7 +106,7 @@ overflow_add-result c =
     let f = c.ranges.cost in
     let e = simp to_z-of_z at c.place-i.ensures in
     let g = goes c.args.costs.now c.args.n c.args.k c.args.cost c.place-i.result c.last_place-last.result (length c.args.plan.now) (length c.args.plans.now)
-        c.requires.0 c.requires.1 c.requires.3 c.requires.4 e c.last_place-last.ensures c.if-k-i.false in
+    c.requires.0 c.requires.1 c.requires.3 c.requires.4 e c.last_place-last.ensures c.if-k-i.false in
     search rules
 
 pub returns : goal.returns

@@ -3,7 +3,7 @@ use mathlib.Core.Path.{◌≡◌, refl}
 use Prim.Native.Nat.{◌+◌, ◌-◌, ◌≤◌}
 use native.Mathlib.Omega.{arith}
 use lib.ListN.{length, length-set}
-use Rattle.laws.specs.Shift.{shifted_from, shift_start, shift_more}
+use Rattle.laws.specs.Shift.{shift_start, shift_more}
 use borrow.Author.Rules.{rules}
 use Rattle.best_kept.proofs.move_bytes.Goals as goal
 use Rattle.best_kept.proofs.move_bytes.Goals.{At-loop-t}

@@ -1,10 +1,9 @@
 -- The bytes from place t on have moved.
 -- Assumes nothing.
-use mathlib.Core.Path.{◌≡◌, refl}
-use Prim.Native.Nat.{◌+◌, ◌-◌, ◌≤◌}
-use native.Mathlib.Omega.{arith}
-use lib.ListN.{length, length-set}
-use Rattle.laws.specs.Shift.{shifted_from, shift_start, shift_more}
+use mathlib.Core.Path.{◌≡◌}
+use Prim.Native.Nat.{◌≤◌}
+use lib.ListN.{length}
+use Rattle.laws.specs.Shift.{shifted_from}
 use Rattle.best_kept.proofs.move_bytes.Given as goal
 
 abbrev pub invariant-loop-t : goal.invariant-loop-t

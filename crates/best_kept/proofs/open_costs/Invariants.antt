@@ -1,12 +1,9 @@
 -- The costs from place t on have moved.
 -- Assumes nothing.
-use mathlib.Core.Path.{◌≡◌, refl}
-use Prim.Native.Nat.{◌-◌, ◌≤◌}
-use native.Mathlib.Omega.{arith}
-use lib.IntN.{pos}
-use lib.ListN.{length, get_or, length-set}
-use Rattle.laws.specs.Shift.{set_last, shifted_from, shift_start, shift_one}
-use Rattle.costs.proofs.Sums.{read64}
+use mathlib.Core.Path.{◌≡◌}
+use Prim.Native.Nat.{◌≤◌}
+use lib.ListN.{length}
+use Rattle.laws.specs.Shift.{shifted_from}
 use Rattle.best_kept.proofs.open_costs.Given as goal
 
 abbrev pub invariant-loop-t : goal.invariant-loop-t

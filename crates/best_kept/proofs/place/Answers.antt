@@ -15,7 +15,7 @@ use Rattle.std.proofs.lemmas.Int.{ints, to_z-of_z}
 use Rattle.laws.specs.Members.{true-T}
 use Rattle.model.specs.Lists.{first_where}
 use Rattle.best_kept.specs.Placed.{Ascends}
-use Rattle.best_kept.proofs.Found.{first_at, place_is, not_at_most}
+use Rattle.best_kept.proofs.Found.{first_at, place_is}
 use Rattle.best_kept.proofs.place.Goals as goal
 
 -- the cost at place i - 1 is not above x, and those from place i on are

@@ -1,19 +1,11 @@
 -- The costs from place i on are above the new one.
 -- Assumes nothing.
-use mathlib.Core.Path.{◌≡◌, sym, ◌∙◌}
+use mathlib.Core.Path.{◌≡◌}
 use mathlib.Core.Bool.{true}
-use mathlib.Core.List.{List}
-use Prim.Native.Nat.{ℕ, suc, ◌-◌, ◌≤◌, ◌<◌}
-use native.Mathlib.Omega.{arith}
-use lib.IntN.{ℤ, pos}
-use lib.Signed.{lt_z, le_z_yes}
-use mir.Syntax.{w64}
-use mir.Val.{to_z, of_z}
-use lib.ListN.{length, get_or, take}
-use lib.Seq.{length-take-le, get_or-take}
-use Rattle.laws.specs.Members.{true-T}
-use Rattle.costs.proofs.Sums.{read64}
-use Rattle.best_kept.proofs.Found.{first_at, place_is, not_at_most}
+use Prim.Native.Nat.{◌≤◌, ◌<◌}
+use lib.IntN.{pos}
+use lib.Signed.{lt_z}
+use lib.ListN.{get_or}
 use Rattle.best_kept.proofs.place.Given as goal
 
 abbrev pub invariant-loop-i : goal.invariant-loop-i

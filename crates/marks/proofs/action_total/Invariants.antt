@@ -1,12 +1,9 @@
 -- The actions of the states before p are counted.
 -- Assumes nothing.
-use mathlib.Core.Path.{◌≡◌, sym, ap, ◌∙◌}
-use Prim.Native.Nat.{◌+◌, ◌-◌, ◌≤◌}
-use native.Mathlib.Omega.{arith}
+use mathlib.Core.Path.{◌≡◌}
+use Prim.Native.Nat.{◌-◌, ◌≤◌}
 use Rattle.model.specs.Model.{state_count}
 use Rattle.model.specs.Limit.{first_mark}
-use Rattle.accepted.specs.Facts.{accepted}
-use Rattle.marks.proofs.Counts.{mark_none, mark_step, mark_few}
 use Rattle.marks.proofs.action_total.Given as goal
 
 abbrev pub invariant-loop-p : goal.invariant-loop-p

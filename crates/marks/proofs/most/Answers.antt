@@ -128,14 +128,18 @@ loop-p-preserved-then-c-n c =
       omega arith,
       omega arith,
       set_is c.args.b.now c.requires.0.checked.ok c.loop-p.invariant.0 c.args.marks.now c.requires.1 c.args.plans.now c.args.at c.requires.2 c.loop-p.v c.loop-p.p
-    c.loop-p-test.true c.loop-p.invariant.1 c.loop-p.invariant.3 c.loop-p.first c.count-n.result d c.count-n.ensures c.wide-c.result c.wide-c.ensures c.if-c-n.true c.wide-mark.result c.most_next.result c.wide-mark.ensures.0 c.most_next.ensures,
+          c.loop-p-test.true c.loop-p.invariant.1 c.loop-p.invariant.3 c.loop-p.first c.count-n.result d c.count-n.ensures c.wide-c.result c.wide-c.ensures c.if-c-n.true c.wide-mark.result c.most_next.result c.wide-mark.ensures.0 c.most_next.ensures,
     )
 
 pub loop-p-preserved : goal.loop-p-preserved
 loop-p-preserved c =
-    let d = due c.args.b.now c.loop-p.p c.loop-p.first c.count-n.result c.loop-p-test.true c.loop-p.invariant.2 c.count-n.ensures in
-    (c.loop-p.invariant.0, omega arith, omega arith, stays c.args.b.now c.requires.0.checked.ok c.loop-p.invariant.0 c.args.marks.now c.requires.1 c.args.plans.now c.args.at c.requires.2 c.loop-p.v c.loop-p.p
-    c.loop-p-test.true c.loop-p.invariant.1 c.loop-p.invariant.3 c.loop-p.first c.count-n.result d c.count-n.ensures c.wide-c.result c.wide-c.ensures c.if-c-n.false)
+    let d = due c.args.b.now c.loop-p.p c.loop-p.first c.count-n.result c.loop-p-test.true c.loop-p.invariant.2 c.count-n.ensures in (
+      c.loop-p.invariant.0,
+      omega arith,
+      omega arith,
+      stays c.args.b.now c.requires.0.checked.ok c.loop-p.invariant.0 c.args.marks.now c.requires.1 c.args.plans.now c.args.at c.requires.2 c.loop-p.v c.loop-p.p
+          c.loop-p-test.true c.loop-p.invariant.1 c.loop-p.invariant.3 c.loop-p.first c.count-n.result d c.count-n.ensures c.wide-c.result c.wide-c.ensures c.if-c-n.false,
+    )
 
 pub returns : goal.returns
 returns c =

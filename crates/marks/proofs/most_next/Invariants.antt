@@ -1,14 +1,9 @@
 -- The most of the next states before transition i is had; that of those from i on is still to come.
 -- Assumes nothing.
-use mathlib.Core.Path.{◌≡◌, refl, ap}
-use mathlib.Core.Logic.{⊎_elim}
-use mathlib.Core.List.{List}
-use Prim.Native.Nat.{ℕ, ◌+◌, ◌-◌, ◌≤◌, max}
-use native.Mathlib.Omega.{arith}
+use mathlib.Core.Path.{◌≡◌}
+use Prim.Native.Nat.{◌-◌, ◌≤◌, max}
 use lib.ListN.{drop}
-use Rattle.model.specs.Model.{Transition, action}
-use Rattle.lines.specs.Lines.{transition}
-use Rattle.lines.proofs.Steps.{one_done, all_done}
+use Rattle.model.specs.Model.{action}
 use Rattle.path_sums.specs.Most.{most_next}
 use Rattle.marks.specs.Marks.{number_at}
 use Rattle.marks.proofs.most_next.Given as goal
