@@ -29,8 +29,8 @@ extern "C" {
 #endif
 
 /* The version of this header, as text and as a number: the first x 10,000 + the second x 100 + the third. */
-#define KBEST_VERSION_TEXT "1.9.0"
-#define KBEST_VERSION 10900
+#define KBEST_VERSION_TEXT "1.8.0"
+#define KBEST_VERSION 10800
 
 /* The version of the library that is linked, as a number. */
 uint32_t kbest_version(void);

@@ -15,8 +15,8 @@ import pathlib
 import threading
 
 # of this module, as text and as the number that version() gives of the library
-VERSION_TEXT = '1.9.0'
-VERSION = 10900
+VERSION_TEXT = '1.8.0'
+VERSION = 10800
 
 BOOK_MOST = 4172
 POSTS_MOST = 64

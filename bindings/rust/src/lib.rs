@@ -10,9 +10,9 @@ use std::fmt;
 use std::num::NonZeroU32;
 
 /// The version of this wrapper as text.
-pub const VERSION_TEXT: &str = "1.9.0";
+pub const VERSION_TEXT: &str = "1.8.0";
 /// The same as a number: the first × 10,000 + the second × 100 + the third.
-pub const VERSION: u32 = 10900;
+pub const VERSION: u32 = 10800;
 
 /// The longest book in words.
 pub const BOOK_MOST: usize = 4172;

@@ -1,6 +1,6 @@
 -- Reading gives the content back: each size, count, line and action that is read from the words of a content is the one that it has.
 -- Assumes nothing.
-use Rattle.std.specs.Prelude.{◌≡◌, ℤ, pos, get_or, take, drop}
+use Rattle.std.specs.Prelude.{◌≡◌, pos, get_or, take, drop}
 use Rattle.std.proofs.Math.Path.{refl, sym, ap, ap₂}
 use Rattle.std.proofs.Common.{◌∙◌, add-zero, get_or-append-add}
 use mathlib.Core.List.{List, [], ◌++◌, map, append-nil, append_assoc}
@@ -11,7 +11,7 @@ use Rattle.std.proofs.Math.IntN.{nat_abs}
 use Rattle.std.proofs.Math.ListN.{length, length-append, length-map, get_or-append, get_or-map}
 use Rattle.std.proofs.Math.Seq.{take-length}
 use Rattle.model.specs.Lists.{up_from, for_each}
-use Rattle.model.specs.Model.{Transition, Action, word, scale, horizon, line_count, stage_size, first_state, state_count, stage, action_count, left, right}
+use Rattle.model.specs.Model.{word, scale, horizon, line_count, stage_size, first_state, state_count, stage, action_count, left, right}
 use Rattle.model.specs.Model.{branches, line_after, skip, state_line, action_line, transition_at, read_action, action}
 use Rattle.content.specs.Content.{Line, Entry, Content, entry_lines, states, state_lines, lefts, rights, lengths, book_words}
 use Rattle.laws.specs.Joined.{join_at, regroup, map_from, for_each-suc, for_each_split, for_each_at}

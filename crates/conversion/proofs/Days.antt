@@ -19,7 +19,7 @@ use Rattle.accepted.specs.Shape.{shape}
 use Rattle.accepted.specs.Demands.{reached, start_reached, nexts-reached, policy-bytes}
 use Rattle.reward_table.specs.Table.{table_scale, table_horizon, table_states, table_first, table_count, table_right, table_line, table_branches}
 use Rattle.reward_table.specs.Table.{table_action_line, read_entry, table_entry, sum_z}
-use Rattle.reward_table.specs.Days.{outcome, outcomes, TableStep, TableDay, day_weight, day_reward, days_from, total_reward, place, choice_at, table_days}
+use Rattle.reward_table.specs.Days.{outcome, outcomes, TableStep, TableDay, day_weight, day_reward, days_from, total_reward, choice_at, table_days}
 use Rattle.reward_table.specs.Days.{table_step}
 use Rattle.reward_table.specs.Convert.{table_book}
 use Rattle.conversion.specs.Given.{Converted}

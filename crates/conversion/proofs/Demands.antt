@@ -14,7 +14,7 @@ use Rattle.questions.specs.FirstNo.{passed, then_yes}
 use Rattle.questions.specs.Answers.{gives}
 use Rattle.accepted.specs.Demands.{weights_add_lem}
 use Rattle.reward_table.specs.Table.{table_scale, table_horizon, table_states, table_count}
-use Rattle.reward_table.specs.Days.{TableDay, day_weight, table_days, is_table_policy, expected_reward}
+use Rattle.reward_table.specs.Days.{TableDay, table_days, is_table_policy, expected_reward}
 use Rattle.reward_table.specs.Convert.{table_book, slice_questions, convert_number, convert_length, convert_slice}
 use Rattle.open_books.proofs.Open.{open_policy}
 use Rattle.open_books.specs.Former.{former_number, former_asked}

@@ -1,35 +1,24 @@
 -- The order of two policies that differ in the depot of one last state, and what follows for a list.
 -- Assumes nothing.
-use Rattle.std.specs.Prelude.{◌≡◌, refl, Bool, true, false, ◌⊎◌, ◌↔◌, T, eqb, negsuc, nat_abs, ◌+ℤ◌, ◌-ℤ◌, ◌*ℤ◌, ◌≤ℤ◌, ◌<ℤ◌, length, take, drop, set}
-use Rattle.std.proofs.Common.{sym, ◌∙◌, subst, inl, zero-add, add-zero, mul-pos, eqb-true, eq-eqb, ne_eqb, length-set, get_or-set_same, get_or-set_other}
-use Rattle.std.proofs.Math.Path.{ap, ap₂}
+use Rattle.std.specs.Prelude.{◌≡◌, ◌⊎◌, ◌↔◌, T, ◌+ℤ◌, ◌-ℤ◌, ◌*ℤ◌, ◌<ℤ◌, set}
+use Rattle.std.proofs.Common.{sym, ◌∙◌, inl, zero-add}
 use Rattle.std.proofs.Math.Logic.{inr}
-use mathlib.Core.List.{List, [], ◌∷◌, ◌++◌}
+use mathlib.Core.List.{[], ◌∷◌}
 use Rattle.std.proofs.Math.Option.{some}
-use Prim.Native.Nat.{ℕ, zero, suc, ◌+◌, ◌*◌, ◌≤◌, ◌<◌}
+use Prim.Native.Nat.{ℕ, ◌<◌}
 use native.Mathlib.Omega.{arith}
-use Rattle.std.proofs.lemmas.Bool.{eqb-false}
-use Rattle.std.proofs.Math.IntN.{ℤ, pos, +ℤ_idr, +ℤ_comm, +ℤ_invr, +ℤ-neg_ℤ_cancel, -ℤ-+ℤ_cancel}
-use Rattle.std.specs.Int.Signed.{<ℤ_irrefl}
+use Rattle.std.proofs.Math.IntN.{pos}
 use Rattle.std.proofs.Math.ListN.{get_elem?}
-use Rattle.model.specs.Lists.{count}
-use Rattle.model.specs.Model.{Words, Transition, Action, weights_of, scale, horizon, state_count, stage, togo, action, options}
+use Rattle.model.specs.Model.{Words, horizon, state_count, stage, action}
 use Rattle.model.specs.Questions.{book_number}
-use Rattle.model.specs.Policy.{Policy, nexts, is_policy, policies, onward}
+use Rattle.model.specs.Policy.{Policy, is_policy}
 use Rattle.model.specs.Path.{byte_at, taken, paths, policy_cost}
-use Rattle.model.specs.Recursion.{cost_to_go, best_of, least_of, feasible, least_at}
 use Rattle.model.specs.Order.{comes_before, ranking}
-use Rattle.laws.specs.Int.{up, dn, ints, lt_in, eq_in, sum_is, scale_is, abs_mul}
-use Rattle.laws.specs.Members.{In, AtNexts}
-use Rattle.laws.specs.Paths.{cost-paths}
-use Rattle.laws.specs.Best.{best_in, best_le, best_low}
-use Rattle.laws.specs.Policies.{reached_from, reached_late, FirstDifference}
-use Rattle.laws.specs.Raises.{raise, rise_at, weight_past, one_raised}
-use Rattle.questions.specs.Stages.{stage_is, of_stage}
-use Rattle.accepted.specs.Options.{Option, options_rising}
-use Rattle.accepted.specs.Shape.{policy_is, shape, togo_start, weights_bound}
-use Rattle.accepted.specs.Demands.{reached, policy-bytes, cost_recursion, comes_before_is, in_list, above_all}
-use Rattle.splits.specs.Reach.{weights_before, reached_on, known_weight, reach_moves_by}
+use Rattle.laws.specs.Members.{In}
+use Rattle.laws.specs.Policies.{FirstDifference}
+use Rattle.laws.specs.Raises.{weight_past}
+use Rattle.accepted.specs.Options.{Option}
+use Rattle.accepted.specs.Demands.{reached, comes_before_is, above_all}
 use Rattle.depots.specs.Choice as choice
 use Rattle.depots.specs.Choice.{moved_below, moved_same, Better, better_other}
 

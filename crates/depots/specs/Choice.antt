@@ -13,7 +13,6 @@ use native.Mathlib.Omega.{arith}
 use Rattle.std.proofs.lemmas.Bool.{eqb-false}
 use Rattle.std.proofs.Math.IntN.{ℤ, pos, +ℤ_idr, +ℤ_comm, +ℤ_invr, +ℤ-neg_ℤ_cancel, -ℤ-+ℤ_cancel}
 use Rattle.std.specs.Int.Signed.{<ℤ_irrefl}
-use Rattle.std.proofs.Math.ListN.{get_elem?}
 use Rattle.model.specs.Lists.{count}
 use Rattle.model.specs.Model.{Words, Transition, Action, weights_of, scale, horizon, state_count, stage, togo, action, options}
 use Rattle.model.specs.Questions.{book_number}
@@ -25,12 +24,12 @@ use Rattle.laws.specs.Int.{up, dn, ints, lt_in, eq_in, sum_is, scale_is, abs_mul
 use Rattle.laws.specs.Members.{In, AtNexts}
 use Rattle.laws.specs.Paths.{cost-paths}
 use Rattle.laws.specs.Best.{best_in, best_le, best_low}
-use Rattle.laws.specs.Policies.{reached_from, reached_late, FirstDifference}
+use Rattle.laws.specs.Policies.{reached_from, reached_late}
 use Rattle.laws.specs.Raises.{raise, rise_at, weight_past, one_raised}
 use Rattle.questions.specs.Stages.{stage_is, of_stage}
 use Rattle.accepted.specs.Options.{Option, options_rising}
 use Rattle.accepted.specs.Shape.{policy_is, shape, togo_start, weights_bound}
-use Rattle.accepted.specs.Demands.{reached, policy-bytes, cost_recursion, comes_before_is, in_list, above_all}
+use Rattle.accepted.specs.Demands.{reached, policy-bytes, cost_recursion, in_list}
 use Rattle.splits.specs.Reach.{weights_before, reached_on, known_weight, reach_moves_by}
 
 -- ---- integers

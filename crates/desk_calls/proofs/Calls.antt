@@ -1,13 +1,12 @@
 -- Sequences of calls at a desk, granted and refused, openings among them.
 -- Assumes nothing.
-use Rattle.std.specs.Prelude.{◌≡◌, refl, Bool, true, false, List, [], ◌∷◌, ℕ, zero, suc, T, eqb}
+use Rattle.std.specs.Prelude.{◌≡◌, refl, Bool, List, [], ◌∷◌, ℕ, zero, suc, T}
 use Rattle.std.proofs.Common.{sym}
-use Rattle.model.specs.Calls.{if_accepted, accept_count}
+use Rattle.model.specs.Calls.{if_accepted}
 use Rattle.questions.specs.Answers.{gives}
 use Rattle.reservation.specs.declared.Desk.{Desk}
-use Rattle.reservation.specs.declared.Answer.{Answer}
-use Rattle.reservation.specs.Reservations.{open_for, holding, taking, asking, committing, cancelling, opening}
-use Rattle.desk_calls.specs.Calls.{Call, answer_to, after, Granted, NoneGranted, next}
+use Rattle.reservation.specs.Reservations.{asking, committing, cancelling, opening}
+use Rattle.desk_calls.specs.Calls.{Call, asks, commits, cancels, opens, answer_to, after, Granted, NoneGranted, next}
 
 -- ---- one call
 

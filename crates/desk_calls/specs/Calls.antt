@@ -1,9 +1,7 @@
 -- Sequences of calls at a desk, granted and refused, openings among them.
 -- Assumes nothing.
-use Rattle.std.specs.Prelude.{◌≡◌, refl, Bool, true, false, List, [], ◌∷◌, ℕ, zero, suc, T, eqb}
-use Rattle.std.proofs.Common.{sym}
-use Rattle.model.specs.Calls.{if_accepted, accept_count}
-use Rattle.questions.specs.Answers.{gives}
+use Rattle.std.specs.Prelude.{◌≡◌, Bool, true, false, List, [], ◌∷◌, ℕ, T, eqb}
+use Rattle.model.specs.Calls.{accept_count}
 use Rattle.reservation.specs.declared.Desk.{Desk}
 use Rattle.reservation.specs.declared.Answer.{Answer}
 use Rattle.reservation.specs.Reservations.{open_for, holding, taking, asking, committing, cancelling, opening}

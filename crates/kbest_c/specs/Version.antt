@@ -8,4 +8,4 @@ version_of first second third = first * 10000 + second * 100 + third
 
 -- The version in the file VERSION.
 abbrev pub version : ℕ
-version = version_of 1 9 0
+version = version_of 1 8 0

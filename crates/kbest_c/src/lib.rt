@@ -14,7 +14,7 @@ ghost use Rattle.kbest_c.specs.Version.{version};
 use reservation::Desk;
 
 // The version in the file VERSION: its first number × 10,000 + its second × 100 + its third.
-const VERSION: u32 = 10900;
+const VERSION: u32 = 10800;
 
 // The version of the library that is linked.
 #[unsafe(no_mangle)]

@@ -4,7 +4,7 @@
 use Rattle.std.specs.Prelude.{◌≡◌, true, ◌⊎◌, [], ◌∷◌, ◌++◌, T}
 use Rattle.std.proofs.Common.{sym, ◌∙◌, subst, arith, length-drop, get_or-drop}
 use Rattle.std.proofs.Math.Path.{ap}
-use Rattle.std.proofs.Math.Option.{Option, none, some}
+use Rattle.std.proofs.Math.Option.{none, some}
 use Prim.Native.Nat.{ℕ, suc, ◌+◌, ◌-◌, ◌<◌}
 use Rattle.std.proofs.Math.Nat.{zero-add}
 use Rattle.std.proofs.Math.ListN.{length, get_elem?, take, drop}
@@ -22,7 +22,7 @@ use Rattle.accepted.specs.Options.{Alive, feasible_small}
 use Rattle.accepted.specs.Shape.{shape, lists, has_alive, policies-feasible, policy-feasible}
 use Rattle.accepted.specs.Demands.{policies_are, policies_ascend, some_policy, policy-bytes}
 use Rattle.next_policy.specs.Linked.{head_or, Linked, following, following_is, entry_after, next_follows, none_follows}
-use Rattle.next_policy.specs.Next.{first_above, lowest_from, next_from}
+use Rattle.next_policy.specs.Next.{lowest_from, next_from}
 use Rattle.next_policy.proofs.Next.{lowest-first, policies_linked}
 use Rattle.next_policy.proofs.Raise.{none_from, next-end, next_split}
 use Rattle.next_policy.specs.Books.{lowest_policy, next_policy, higher_at}

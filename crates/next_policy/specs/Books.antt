@@ -1,27 +1,13 @@
 -- The policies of an accepted book in the order of their bytes: the enumeration is in that order, and going from the lowest policy to the next and the
 -- next goes through it.
 -- Assumes nothing.
-use Rattle.std.specs.Prelude.{◌≡◌, true, ◌⊎◌, [], ◌∷◌, ◌++◌, T}
-use Rattle.std.proofs.Common.{sym, ◌∙◌, subst, arith, length-drop, get_or-drop}
-use Rattle.std.proofs.Math.Path.{ap}
-use Rattle.std.proofs.Math.Option.{Option, none, some}
-use Prim.Native.Nat.{ℕ, suc, ◌+◌, ◌-◌, ◌<◌}
-use Rattle.std.proofs.Math.Nat.{zero-add}
-use Rattle.std.proofs.Math.ListN.{length, get_elem?, take, drop}
-use Rattle.std.proofs.Math.Seq.{split_at, length-take-le}
+use Rattle.std.specs.Prelude.{[], ◌∷◌}
+use Rattle.std.proofs.Math.Option.{Option}
+use Prim.Native.Nat.{ℕ}
 use Rattle.model.specs.Model.{Words, state_count, action}
-use Rattle.model.specs.Questions.{book_number}
-use Rattle.model.specs.Policy.{Policy, onward, is_policy, policies, has_policy}
+use Rattle.model.specs.Policy.{Policy}
 use Rattle.model.specs.Path.{byte_at}
 use Rattle.model.specs.Recursion.{feasible}
-use Rattle.model.specs.Order.{lower}
-use Rattle.laws.specs.Members.{In, in_one}
-use Rattle.laws.specs.Policies.{IsPolicy, reached_from}
-use Rattle.laws.specs.Ascent.{bytes_strict}
-use Rattle.accepted.specs.Options.{Alive, feasible_small}
-use Rattle.accepted.specs.Shape.{shape, lists, has_alive, policies-feasible, policy-feasible}
-use Rattle.accepted.specs.Demands.{policies_are, policies_ascend, some_policy, policy-bytes}
-use Rattle.next_policy.specs.Linked.{head_or, Linked, following, following_is, entry_after, next_follows, none_follows}
 use Rattle.next_policy.specs.Next.{first_above, lowest_from, next_from}
 
 -- the policy that takes the lowest feasible action at each state that it reaches

@@ -2,16 +2,11 @@
 -- the same bytes, and after it the lowest action of each state reached. The enumeration of the policies is in this order, and `next_from` leads from each
 -- policy to the one after it, where a policy goes on from each action of the lists.
 -- Assumes nothing.
-use Rattle.std.specs.Prelude.{◌≡◌, refl, Bool, true, false, cond, List, [], ◌∷◌, ◌++◌, map, ℕ, zero, suc, ◌<◌, ltb}
-use Rattle.std.proofs.Common.{sym, ap, ◌∙◌, subst, inl, inr, ⊎_elim, arith, lt-ltb, le-ltb}
+use Rattle.std.specs.Prelude.{cond, List, [], ◌∷◌, ℕ, zero, suc, ltb}
 use Rattle.std.proofs.Math.Option.{Option, none, some}
-use Rattle.model.specs.Lists.{is_in, for_each}
-use Rattle.model.specs.Model.{Transition, Action}
-use Rattle.model.specs.Policy.{Policy, nexts, allowed, onward, policies_from}
-use Rattle.laws.specs.Members.{true-T, In, Every, in_one, in_++, is_in_in, Rising, below_in, at_nexts}
-use Rattle.laws.specs.Ascent.{allowed_rising}
-use Rattle.laws.specs.First.{Lists}
-use Rattle.next_policy.specs.Linked.{head_or, Linked, linked_++}
+use Rattle.model.specs.Lists.{is_in}
+use Rattle.model.specs.Model.{Action}
+use Rattle.model.specs.Policy.{Policy, allowed, onward}
 
 -- the first of a list, 255 where there is none
 abbrev pub first_of : List ℕ → ℕ

@@ -1,10 +1,10 @@
 -- "nothing is missing from a list among the plans that avoid closed choices": of the policies that a book would have if no action were closed, its
 -- policies are those that take no closed action at a state that they reach, and the list is over these.
 -- Assumes nothing.
-use Rattle.std.specs.Prelude.{◌≡◌, false, ◌↔◌, [], ◌∷◌, ℕ, ◌<◌, T}
+use Rattle.std.specs.Prelude.{◌≡◌, ◌↔◌, [], ◌∷◌, ℕ, ◌<◌, T}
 use Rattle.std.proofs.Common.{arith}
 use Rattle.model.specs.Lists.{count}
-use Rattle.model.specs.Model.{Words, state_count, action_count, action, closed, options}
+use Rattle.model.specs.Model.{Words, state_count, action_count, action, options}
 use Rattle.model.specs.Questions.{book_number}
 use Rattle.model.specs.Policy.{Policy, is_policy, policies}
 use Rattle.model.specs.Path.{byte_at, taken}

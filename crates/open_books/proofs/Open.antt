@@ -1,6 +1,6 @@
 -- Books in which no action is closed: every action is an option, and an accepted book has a policy.
 -- Assumes nothing.
-use Rattle.std.specs.Prelude.{◌≡◌, refl, true, false, not, ℕ, zero, suc, ◌<◌}
+use Rattle.std.specs.Prelude.{◌≡◌, refl, true, not, ℕ, zero, suc, ◌<◌}
 use Rattle.std.proofs.Common.{ap, ◌∙◌, arith}
 use Rattle.model.specs.Lists.{up_from}
 use Rattle.model.specs.Model.{Words, state_count, togo, action_count, action, closed, options}

@@ -13,7 +13,7 @@ use Rattle.laws.specs.Members.{In}
 use Rattle.accepted.specs.Facts.{accepted}
 use Rattle.accepted.specs.Shape.{shape, togo_start, cost_bound}
 use Rattle.accepted.specs.Demands.{policy_takes, most-fits}
-use Rattle.path_sums.specs.Most.{most_of, most_next, most_to_go}
+use Rattle.path_sums.specs.Most.{most_next, most_to_go}
 use Rattle.path_sums.proofs.Most.{most_within, to_go_bound, by_stage, path_has, most-paths, cost-most}
 use Rattle.path_sums.specs.Books.{most_over, most_from}
 

@@ -1,15 +1,9 @@
 -- The most over paths of the sum over a path's steps of a number for each state (of the action taken there). The most is that of a recursion
 -- from the last states to the first, where each state has a path: that is so where D is at least 1. For any actions.
 -- Assumes nothing.
-use Rattle.std.specs.Prelude.{◌≡◌, refl, ◌⊎◌, ◌↔◌, List, [], ◌∷◌, ℕ, zero, suc, ◌+◌, ◌*◌, ◌≤◌, ◌<◌, max, ℤ, pos, nat_abs, ◌+ℤ◌}
-use Rattle.std.proofs.Common.{ap, ◌∙◌, inl, inr, arith, lt-ltb}
-use Rattle.std.proofs.Math.Decide.{dec_lt}
-use Rattle.model.specs.Lists.{for_each}
+use Rattle.std.specs.Prelude.{List, [], ◌∷◌, ℕ, zero, suc, ◌+◌, max}
 use Rattle.model.specs.Model.{Transition, Action}
-use Rattle.model.specs.Path.{Path, path_cost, path_sum, stops_after, paths_from}
-use Rattle.laws.specs.Int.{abs_add}
-use Rattle.laws.specs.Members.{In, in_one, ++-in, for_each_in, map_in, every_imp, AtNexts}
-use Rattle.laws.specs.Paths.{stop, stop_ends, step_by, paths_by, Begins, begins}
+use Rattle.model.specs.Path.{Path, path_sum}
 
 -- ---- over paths
 

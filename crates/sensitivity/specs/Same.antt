@@ -1,7 +1,7 @@
 -- What the raised book says: its sizes and its transitions are those of the book, and its costs too but for the one that is raised. Where neither
 -- the old nor the new cost is the mark of a closed action, its options are those of the book.
 -- Assumes nothing.
-use Rattle.std.specs.Prelude.{◌≡◌, Bool, true, false, not, ◌&&◌, cond, eqb, leb, ◌+ℤ◌, length}
+use Rattle.std.specs.Prelude.{◌≡◌, Bool, true, false, ◌&&◌, cond, eqb, leb, ◌+ℤ◌, length}
 use Rattle.std.proofs.Math.Path.{refl, sym, ap, ap₂}
 use Rattle.std.proofs.Common.{◌∙◌, subst, arith, eqb-true}
 use mathlib.Core.List.{List, map}
@@ -11,18 +11,16 @@ use Rattle.std.proofs.lemmas.Bool.{eqb-false}
 use Rattle.std.proofs.Math.IntN.{ℤ, pos, nat_abs, +ℤ_idr}
 use Rattle.std.proofs.Math.ListN.{length-set}
 use Rattle.std.proofs.Math.Seq.{get_or-set_same, get_or-set_other}
-use Rattle.model.specs.Lists.{sum_to, up_from, bit, keep}
+use Rattle.model.specs.Lists.{sum_to, up_from, bit}
 use Rattle.model.specs.Model.{Words, Transition, Action, word, scale, horizon, line_count, stage_size, first_state, state_count, stage, action_count}
-use Rattle.model.specs.Model.{left, right, branches, line_after, skip, state_line, action_line, transition_at, read_action, action, closed, options}
+use Rattle.model.specs.Model.{left, right, branches, line_after, skip, state_line, action_line, transition_at, read_action, action, closed}
 use Rattle.model.specs.Questions.{book_number}
 use Rattle.laws.specs.Members.{In, map_same, up_from_in}
-use Rattle.laws.specs.Kept.{keep_same}
 use Rattle.laws.specs.Raises.{raise}
 use Rattle.questions.specs.Ranges.{sum_same}
 use Rattle.questions.specs.Stages.{of_stage}
 use Rattle.accepted.specs.Facts.{accepted}
 use Rattle.accepted.specs.Lines.{one_action, line_inside}
-use Rattle.accepted.specs.Options.{options_are}
 use Rattle.accepted.specs.Shape.{action_is, action-none}
 use Rattle.sensitivity.specs.Raise.{cost_index, raised}
 

@@ -1,6 +1,6 @@
 -- How many plans a book has: the enumeration has each once, so it has more than m exactly if there are more than m different plans.
 -- Assumes nothing.
-use Rattle.std.specs.Prelude.{◌≡◌, refl, ◌⊎◌, ◌↔◌, List, [], ◌∷◌, ◌++◌, ℕ, ◌+◌, ◌≤◌, ◌<◌, T, length}
+use Rattle.std.specs.Prelude.{◌≡◌, refl, ◌⊎◌, ◌↔◌, List, [], ◌∷◌, ◌++◌, ℕ, ◌≤◌, ◌<◌, T, length}
 use Rattle.std.proofs.Common.{sym, ap, subst, inl, inr, arith, length-append}
 use Rattle.model.specs.Model.{Words}
 use Rattle.model.specs.Questions.{book_number}

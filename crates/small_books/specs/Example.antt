@@ -9,7 +9,7 @@ use Rattle.model.specs.Policy.{policies, has_policy}
 use Rattle.model.specs.Path.{taken, paths, policy_cost}
 use Rattle.model.specs.Order.{comes_before, ranking, ranking_costs}
 use Rattle.model.specs.Record.{asked_number}
-use Rattle.model.specs.Calls.{Room, room_of, is_small, small_number, small_count, small_costs, small_plans}
+use Rattle.model.specs.Calls.{room_of, is_small, small_number, small_count, small_costs, small_plans}
 
 -- D = 1, H = 2, posts 1, 2, 1. Post 0: cost 5 to post 1, or cost 3 to post 2. Post 1: cost 1 or 4. Post 2: cost 2. Closing 0
 abbrev book : Words

@@ -4,7 +4,7 @@ use Rattle.std.specs.Prelude.{◌≡◌, refl, ◌↔◌, ℕ, ◌≤◌, T}
 use Rattle.std.proofs.Math.Path.{sym}
 use Rattle.std.proofs.Common.{◌∙◌, arith}
 use Rattle.model.specs.Model.{Words}
-use Rattle.model.specs.Questions.{first_no, book_number}
+use Rattle.model.specs.Questions.{book_number}
 use Rattle.model.specs.Policy.{Policy, is_policy}
 use Rattle.model.specs.Record.{asked_number}
 use Rattle.model.specs.Standing.{Answer, standing, answer_number, answer_value}

@@ -10,7 +10,7 @@ use Prim.Native.Nat.{ℕ, suc, ◌+◌, ◌-◌, ◌≤◌, ◌<◌}
 use Rattle.std.proofs.Math.Decide.{dec_lt}
 use borrow.Author.Tests.{lt-ltb, le-ltb, ltb-true, ltb-false}
 use Rattle.std.proofs.Math.Dec.{ltb}
-use Rattle.std.proofs.Math.IntN.{-ℤ-+ℤ_cancel, +ℤ-neg_ℤ_cancel, +ℤ_comm}
+use Rattle.std.proofs.Math.IntN.{+ℤ_comm, +ℤ-neg_ℤ_cancel, -ℤ-+ℤ_cancel}
 use Rattle.std.specs.Int.Signed.{lt_z, lt_z_yes, <ℤ_irrefl}
 use Rattle.std.proofs.Math.ListN.{length, get_elem?}
 use Rattle.model.specs.Lists.{count}
