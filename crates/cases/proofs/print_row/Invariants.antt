@@ -5,7 +5,7 @@ use lib.ListN.{length}
 use Rattle.cases.proofs.print_row.Given as goal
 
 abbrev pub invariant-loop-i : goal.invariant-loop-i
-invariant-loop-i l = i ≤ length l.row
+invariant-loop-i l = l.i ≤ length l.row
 
 abbrev pub decreases-loop-i : goal.decreases-loop-i
-decreases-loop-i l = length l.row - i
+decreases-loop-i l = length l.row - l.i

@@ -1,2 +1,0 @@
-mod Passed
-mod Desks
