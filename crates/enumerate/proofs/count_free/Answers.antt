@@ -1,6 +1,5 @@
 -- Assumes nothing.
 use mathlib.Core.Path.{◌≡◌, sym, ap, ◌∙◌}
-use Prim.Native.Nat.{◌+◌, ◌-◌, ◌≤◌}
 use native.Mathlib.Nat.{sub-zero}
 use native.Mathlib.Omega.{arith}
 use lib.ListN.{length}
@@ -26,7 +25,7 @@ loop-c-preserved c =
     let n = c.args.n in
     let h = c.loop-c-test.true in
     elim c.if-not-has8.branch [
-      then-not-has8 u ↦ (
+      | then-not-has8 u ↦ (
         omega arith,
         omega (arith, u.found-is),
         omega (arith, u.found-is, ap length (free_more mask c.loop-c.c n h (sym c.has8.ensures ∙ u.if-not-has8.true))),

@@ -1,13 +1,9 @@
 -- Those before c are counted.
 -- Assumes nothing.
-use mathlib.Core.Path.{◌≡◌, sym, ap}
-use mathlib.Core.Logic.{⊎_elim}
+use mathlib.Core.Path.{◌≡◌}
 use Prim.Native.Nat.{◌+◌, ◌-◌, ◌≤◌}
-use native.Mathlib.Nat.{sub-zero}
-use native.Mathlib.Omega.{arith}
 use lib.ListN.{length}
-use Rattle.book.proofs.Words.{no, yes'}
-use Rattle.enumerate.proofs.Free.{free_from, none_left, free_more, free-later}
+use Rattle.enumerate.proofs.Free.{free_from}
 use Rattle.enumerate.proofs.count_free.Given as goal
 
 abbrev pub invariant-loop-c : goal.invariant-loop-c

@@ -1,18 +1,12 @@
 -- Assumes nothing.
 use mathlib.Core.Path.{◌≡◌, sym, ◌∙◌}
-use mathlib.Core.List.{List}
-use mathlib.Core.Option.{some}
-use Prim.Native.Nat.{ℕ, suc, ◌+◌, ◌-◌, ◌≤◌}
+use Prim.Native.Nat.{suc, ◌+◌, ◌-◌, ◌≤◌}
 use native.Mathlib.Omega.{arith}
-use borrow.Author.Tests.{not-true, not-false}
-use lib.ListN.{length, get_elem?}
-use Rattle.model.specs.Model.{Words}
-use Rattle.model.specs.Policy.{Policy, policies}
+use lib.ListN.{length}
+use Rattle.model.specs.Policy.{policies}
 use Rattle.laws.specs.Entries.{at_low}
 use Rattle.accepted.specs.Demands.{policy-bytes}
-use Rattle.enumerate.specs.Steps.{Stands}
 use Rattle.enumerate.proofs.Places.{first_at, next_at_lem, last_at}
-use Rattle.enumerate.proofs.count_to.Invariants.{There}
 use Rattle.enumerate.proofs.count_to.Goals as goal
 use Rattle.enumerate.proofs.count_to.Goals.{At-loop-n}
 

@@ -1,18 +1,13 @@
 -- Policy n - 1, counted from 0, is there.
 -- Assumes nothing.
-use mathlib.Core.Path.{◌≡◌, sym, ◌∙◌}
+use mathlib.Core.Path.{◌≡◌}
 use mathlib.Core.List.{List}
 use mathlib.Core.Option.{some}
-use Prim.Native.Nat.{ℕ, suc, ◌+◌, ◌-◌, ◌≤◌}
-use native.Mathlib.Omega.{arith}
-use borrow.Author.Tests.{not-true, not-false}
-use lib.ListN.{length, get_elem?}
+use Prim.Native.Nat.{ℕ, ◌+◌, ◌-◌, ◌≤◌}
+use lib.ListN.{get_elem?}
 use Rattle.model.specs.Model.{Words}
 use Rattle.model.specs.Policy.{Policy, policies}
-use Rattle.laws.specs.Entries.{at_low}
-use Rattle.accepted.specs.Demands.{policy-bytes}
 use Rattle.enumerate.specs.Steps.{Stands}
-use Rattle.enumerate.proofs.Places.{first_at, next_at_lem, last_at}
 use Rattle.enumerate.proofs.count_to.Given as goal
 
 pub record There (ws : Words) (most n : ℕ) (bs : Policy) (reach : List ℕ) : Type 0 where

@@ -1,14 +1,10 @@
 -- The product of the states before p is there.
 -- Assumes nothing.
-use mathlib.Core.Path.{◌≡◌, sym, ap, ◌∙◌}
-use Prim.Native.Nat.{ℕ, suc, ◌+◌, ◌*◌, ◌-◌, ◌≤◌, ◌<◌}
-use native.Mathlib.Nat.{mul_assoc, mul-one, one-mul, sub-zero}
-use native.Mathlib.Numerals.{add-one}
-use native.Mathlib.Omega.{arith}
+use mathlib.Core.Path.{◌≡◌}
+use Prim.Native.Nat.{◌*◌, ◌-◌, ◌≤◌}
 use Rattle.model.specs.Model.{state_count}
 use Rattle.model.specs.Recursion.{feasible}
-use Rattle.accepted.specs.Facts.{accepted}
-use Rattle.enumerate.specs.Ways.{ways_at, ways, policies-most}
+use Rattle.enumerate.specs.Ways.{ways}
 use Rattle.enumerate.proofs.few_at_sight.Given as goal
 
 abbrev pub invariant-loop-p : goal.invariant-loop-p

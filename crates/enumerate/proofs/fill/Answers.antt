@@ -1,18 +1,15 @@
 -- Assumes nothing.
 use mathlib.Core.Path.{◌≡◌, refl, sym, ◌∙◌, subst}
 use mathlib.Core.Logic.{◌⊎◌}
-use mathlib.Core.List.{List}
-use Prim.Native.Nat.{ℕ, ◌-◌, ◌≤◌, ◌<◌}
+use Prim.Native.Nat.{ℕ, ◌<◌}
 use native.Mathlib.Omega.{arith}
-use lib.ListN.{length, set, length-set}
+use lib.ListN.{length-set}
 use Rattle.model.specs.Model.{Words, state_count}
-use Rattle.model.specs.Policy.{Policy}
 use Rattle.accepted.specs.Facts.{accepted}
 use Rattle.accepted.specs.Options.{Feasible}
 use Rattle.sets.specs.Sets.{has}
-use Rattle.enumerate.specs.Steps.{Lowest, ReachedBefore, ReachTo, filled_from}
+use Rattle.enumerate.specs.Steps.{Lowest, ReachTo}
 use Rattle.enumerate.proofs.Filling.{lowest-action, lowest_small, reached-next, filled_next, sets_next, filled_all}
-use Rattle.enumerate.proofs.fill.Invariants.{Done}
 use Rattle.enumerate.proofs.fill.Goals as goal
 
 pub loop-p-init : goal.loop-p-init

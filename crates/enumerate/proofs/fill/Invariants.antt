@@ -1,18 +1,12 @@
 -- The states before p have their bytes and their sets.
 -- Assumes nothing.
-use mathlib.Core.Path.{◌≡◌, refl, sym, ◌∙◌, subst}
-use mathlib.Core.Logic.{◌⊎◌}
+use mathlib.Core.Path.{◌≡◌}
 use mathlib.Core.List.{List}
-use Prim.Native.Nat.{ℕ, ◌-◌, ◌≤◌, ◌<◌}
-use native.Mathlib.Omega.{arith}
-use lib.ListN.{length, set, length-set}
+use Prim.Native.Nat.{ℕ, ◌-◌, ◌≤◌}
+use lib.ListN.{length}
 use Rattle.model.specs.Model.{Words, state_count}
 use Rattle.model.specs.Policy.{Policy}
-use Rattle.accepted.specs.Facts.{accepted}
-use Rattle.accepted.specs.Options.{Feasible}
-use Rattle.sets.specs.Sets.{has}
 use Rattle.enumerate.specs.Steps.{ReachedBefore, ReachTo, filled_from}
-use Rattle.enumerate.proofs.Filling.{lowest-action, lowest_small, reached-next, filled_next, sets_next, filled_all}
 use Rattle.enumerate.proofs.fill.Given as goal
 
 -- what is there when the states before p are done

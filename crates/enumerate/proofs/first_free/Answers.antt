@@ -1,9 +1,8 @@
 -- Assumes nothing.
-use mathlib.Core.Path.{◌≡◌, refl, ap, sym, ◌∙◌}
-use Prim.Native.Nat.{◌-◌}
+use mathlib.Core.Path.{refl, ap, sym, ◌∙◌}
 use native.Mathlib.Omega.{arith}
 use Rattle.next_policy.specs.Next.{first_of}
-use Rattle.enumerate.proofs.Free.{free_from, none_left, free_here, free-later}
+use Rattle.enumerate.proofs.Free.{none_left, free_here, free-later}
 use Rattle.enumerate.proofs.first_free.Goals as goal
 
 pub loop-c-init : goal.loop-c-init

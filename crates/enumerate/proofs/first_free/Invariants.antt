@@ -1,11 +1,8 @@
 -- None of the actions before c is left.
 -- Assumes nothing.
-use mathlib.Core.Path.{◌≡◌, refl, ap, sym, ◌∙◌}
+use mathlib.Core.Path.{◌≡◌}
 use Prim.Native.Nat.{◌-◌}
-use native.Mathlib.Omega.{arith}
-use Rattle.book.proofs.Words.{no, yes'}
-use Rattle.next_policy.specs.Next.{first_of}
-use Rattle.enumerate.proofs.Free.{free_from, none_left, free_here, free-later}
+use Rattle.enumerate.proofs.Free.{free_from}
 use Rattle.enumerate.proofs.first_free.Given as goal
 
 abbrev pub invariant-loop-c : goal.invariant-loop-c

@@ -3,8 +3,7 @@
 use mathlib.Core.Path.{◌≡◌, sym, ◌∙◌}
 use mathlib.Core.Bool.{true, false}
 use mathlib.Core.Logic.{inl, inr}
-use mathlib.Core.Option.{some}
-use Prim.Native.Nat.{ℕ, ◌<◌}
+use Prim.Native.Nat.{ℕ}
 use native.Mathlib.Omega.{arith}
 use lib.Dec.{T}
 use lib.ListN.{length, length-set}
@@ -12,12 +11,10 @@ use Rattle.model.specs.Model.{Words, state_count}
 use Rattle.model.specs.Questions.{book_number}
 use Rattle.model.specs.Policy.{Policy, is_policy}
 use Rattle.accepted.specs.Facts.{accepted}
-use Rattle.accepted.specs.Options.{Feasible}
 use Rattle.accepted.specs.Demands.{policy-bytes}
-use Rattle.next_policy.specs.Books.{next_policy}
 use Rattle.next_policy.proofs.Books.{next_last}
 use Rattle.enumerate.specs.declared.Raise.{Raise}
-use Rattle.enumerate.specs.Steps.{Last, None, RaiseIs, Stands}
+use Rattle.enumerate.specs.Steps.{Last, None, RaiseIs}
 use Rattle.enumerate.proofs.Filling.{lowest_small, reached-next}
 use Rattle.enumerate.proofs.Following.{raise_acts, next_stands}
 use Rattle.enumerate.proofs.next.Goals as goal
@@ -96,12 +93,12 @@ pub shape_of-plan : goal.shape_of-plan
 shape_of-plan c =
     let last = last_is c.args.b.now c.args.plan.now c.raise_of-up.result c.args.z.s c.requires.0.checked.sizes.s_is c.if-p-s.false c.raise_of-up.ensures in
     let n = next_stands c.args.b.now c.requires.0.checked.ok c.args.plan.now (bytes_long c.args.b.now c.requires.0.checked.ok c.args.plan.now c.requires.2.is) c.requires.2.is c.raise_of-up.result last c.args.reach.now _
-            c.requires.2.sets _ c.fill.ensures in
+    c.requires.2.sets _ c.fill.ensures in
     bytes_long c.args.b.now c.requires.0.checked.ok _ n.1.is ∙ sym (bytes_long c.args.b.now c.requires.0.checked.ok c.args.plan.now c.requires.2.is)
 
 pub returns : goal.returns
 returns c =
     let last = last_is c.args.b.now c.args.plan.now c.raise_of-up.result c.args.z.s c.requires.0.checked.sizes.s_is c.if-p-s.false c.raise_of-up.ensures in
     let n = next_stands c.args.b.now c.requires.0.checked.ok c.args.plan.now (bytes_long c.args.b.now c.requires.0.checked.ok c.args.plan.now c.requires.2.is) c.requires.2.is c.raise_of-up.result last c.args.reach.now _
-            c.requires.2.sets _ c.fill.ensures in
+    c.requires.2.sets _ c.fill.ensures in
     record { ends = λ z. absurd (false-not (sym z)); follows = λ z. n.0; stands = λ z. n.1 }

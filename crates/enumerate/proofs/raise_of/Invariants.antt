@@ -1,13 +1,8 @@
 -- No state from p on has a higher action.
 -- Assumes nothing.
-use mathlib.Core.Path.{◌≡◌, refl, ap, ◌∙◌}
-use mathlib.Core.Bool.{Bool, true, false}
-use mathlib.Core.Logic.{inl, inr}
+use mathlib.Core.Path.{◌≡◌}
 use mathlib.Core.Option.{none}
-use Prim.Native.Nat.{ℕ, ◌-◌, ◌≤◌, ◌<◌}
-use native.Mathlib.Omega.{arith}
-use borrow.Author.Tests.{eqb-true, eqb-false}
-use lib.Dec.{eqb}
+use Prim.Native.Nat.{ℕ, ◌≤◌, ◌<◌}
 use Rattle.model.specs.Model.{Words, state_count}
 use Rattle.model.specs.Policy.{Policy}
 use Rattle.next_policy.specs.Books.{higher_at}
