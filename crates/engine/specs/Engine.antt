@@ -12,7 +12,7 @@ use Rattle.book.specs.declared.Sizes.{Sizes}
 use Rattle.index.specs.Index.{Indexed}
 use Rattle.nexts.specs.Nexts.{NextsOf}
 use Rattle.build.specs.Best.{RowsOf, BestOf, SecondOf}
-use Rattle.pool.specs.Entries.{entries, beyond_of}
+use Rattle.pool.specs.Entries.{beyond_of}
 use Rattle.splits.specs.Search.{admit}
 use Rattle.stored.specs.Entry.{Entry, earlier_entry}
 use Rattle.stored.specs.Children.{cost_of, child_entries}

@@ -21,7 +21,6 @@ use Rattle.accepted.specs.Options.{Feasible}
 use Rattle.accepted.specs.Shape.{alive_has}
 use Rattle.book.specs.declared.Sizes.{Sizes}
 use Rattle.index.specs.Index.{Checked}
-use Rattle.costs.proofs.Sums.{read64}
 use Rattle.bytes_io.specs.Slices.{written}
 use Rattle.build.specs.Walk.{walk_by, chosen, Passed}
 use Rattle.stored.specs.Entry.{Entry}
@@ -30,7 +29,7 @@ use Rattle.pool.specs.declared.Pool.{Pool}
 use Rattle.pool.specs.Entries.{row, entries, first_entry, earlier_than, first_yes, Holding, Inserted, Spare, Popped, moved_up, moved_back}
 use Rattle.pool.proofs.Moves.{slot_low}
 use Rattle.pool.proofs.Removal.{shorter, shorter_popped}
-use Rattle.pool.proofs.Insertion.{unchanged, filled, place-before, filled_inserted}
+use Rattle.pool.proofs.Insertion.{unchanged, place-before, filled_inserted}
 use Rattle.reach.specs.Weights.{WeightsOf}
 use Rattle.child.specs.declared.Parent.{Parent}
 use Rattle.child.specs.declared.Child.{Child}
@@ -41,7 +40,7 @@ use Rattle.engine.specs.Engine.{RowOf, may_enter, ParentIs, Roomy}
 use Rattle.engine.proofs.Joins.{parent_is, stays_out, some_child, enters}
 use Rattle.engine.proofs.Parts.{part_long, put_long, put_is, put_read}
 use Rattle.engine.proofs.Ranking.{first-rights}
-use Rattle.engine.proofs.Turns.{bytes_at, Splitting, Turn, turns_start, costs_long, plans_long, turns_empty, waiting_right, turns_list, turns_last, turns_child, turns_end}
+use Rattle.engine.proofs.Turns.{bytes_at, Splitting, Turn, turns_start, plans_long, turns_empty, waiting_right, turns_list, turns_last, turns_child, turns_end}
 use Rattle.engine.proofs.search.Goals as goal
 
 few : {ws : Words} {z : Sizes} → Checked ws z → z.s ≤ 64
@@ -145,16 +144,20 @@ pub read_row-requires : goal.read_row-requires
 read_row-requires c =
     let known = c.requires.0.indexed.checked in
     let t = c.loop-j.invariant in
-    let room = plans_room known t c.if-p-s.true c.if-count-eq0.false c.loop-j-test.true c.requires.1.most_high c.requires.2 in
-    (t.formed.plans_long, low known t c.if-p-s.true c.if-count-eq0.false c.loop-j-test.true c.requires.1.most_high c.requires.2 c.slot_at-slot.ensures, few known,
-      part_long c.loop-j.plans (c.loop-j.j * c.args.z.s) c.args.z.s (state_count c.args.b.now) known.sizes.s_is room)
+    let room = plans_room known t c.if-p-s.true c.if-count-eq0.false c.loop-j-test.true c.requires.1.most_high c.requires.2 in (
+      t.formed.plans_long,
+      low known t c.if-p-s.true c.if-count-eq0.false c.loop-j-test.true c.requires.1.most_high c.requires.2 c.slot_at-slot.ensures,
+      few known,
+      part_long c.loop-j.plans (c.loop-j.j * c.args.z.s) c.args.z.s (state_count c.args.b.now) known.sizes.s_is room,
+    )
 
 pub reach_weights-requires : goal.reach_weights-requires
 reach_weights-requires c =
-    let known = c.requires.0.indexed.checked in
-    (c.requires.0.indexed,
+    let known = c.requires.0.indexed.checked in (
+      c.requires.0.indexed,
       plan_model c.args.b.now known.ok _
-      (en_right known c.loop-j.invariant c.if-p-s.true c.if-count-eq0.false c.loop-j-test.true c.requires.1.most_high c.requires.2 c.slot_at-slot.ensures c.read_row.ensures c.first_of-e.ensures))
+          (en_right known c.loop-j.invariant c.if-p-s.true c.if-count-eq0.false c.loop-j-test.true c.requires.1.most_high c.requires.2 c.slot_at-slot.ensures c.read_row.ensures c.first_of-e.ensures),
+    )
 
 pub reached_before-reach-requires : goal.reached_before-reach-requires
 reached_before-reach-requires c =
@@ -315,10 +318,11 @@ overflow_cast-pool c =
 pub move_up-requires : goal.move_up-requires
 move_up-requires c =
     let known = c.requires.0.indexed.checked in
-    let same : to_z w64 (of_z w64 c.child_at-d.result.cost) ≡ c.child_at-d.result.cost = search rules in
-    (c.loop-j.invariant.formed.slots.long,
+    let same : to_z w64 (of_z w64 c.child_at-d.result.cost) ≡ c.child_at-d.result.cost = search rules in (
+      c.loop-j.invariant.formed.slots.long,
       before_last known c.loop-j.invariant c.if-p-s.false c.child_at-d.ensures c.pass_state-reach.ensures c.may_enter.ensures c.if-may_enter.true c.row_of.ensures same c.place-i.ensures c.spare_place-last.ensures c.if-i-k.true,
-      last_low known c.loop-j.invariant c.if-p-s.false c.child_at-d.ensures c.pass_state-reach.ensures c.may_enter.ensures c.if-may_enter.true c.row_of.ensures same c.place-i.ensures c.spare_place-last.ensures c.if-i-k.true)
+      last_low known c.loop-j.invariant c.if-p-s.false c.child_at-d.ensures c.pass_state-reach.ensures c.may_enter.ensures c.if-may_enter.true c.row_of.ensures same c.place-i.ensures c.spare_place-last.ensures c.if-i-k.true,
+    )
 
 pub loop-j-preserved-then-i-k : goal.loop-j-preserved-then-i-k
 loop-j-preserved-then-i-k c =
