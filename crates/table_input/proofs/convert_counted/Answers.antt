@@ -72,21 +72,21 @@ returns-then-c-ne0 c =
     put_refused _ s.requires.1 _ (number k) e.if-c-ne0.true y.put_refused-then-c-ne0.ensures
 
 pub slice_bounds-book-end : goal.slice_bounds-book-end
-slice_bounds-book-end c = (book_at c c.if-c-ne0.false).0
+slice_bounds-book-end c = (book_at (goal.at.slice_bounds-book-end c).After-convert-c c.if-c-ne0.false).0
 
 pub slice_bounds-write_words-end : goal.slice_bounds-write_words-end
-slice_bounds-write_words-end c = sym (length-take-le _ _ (book_at c c.if-c-ne0.false).0)
+slice_bounds-write_words-end c = sym (length-take-le _ _ (book_at (goal.at.slice_bounds-write_words-end c).After-convert-c c.if-c-ne0.false).0)
 
 pub write_words-requires : goal.write_words-requires
 write_words-requires c =
-    let k = c in
+    let k = (goal.at.write_words-requires c).After-convert-c in
     let z = c.if-c-ne0.false in
     let s = k in
     omega (arith, ap length (book_at k z).1, book_short _ _ (passed k z), s.requires.1)
 
 pub overflow_mul-result : goal.overflow_mul-result
 overflow_mul-result c =
-    let k = c in
+    let k = (goal.at.overflow_mul-result c).After-convert-c in
     let z = c.if-c-ne0.false in
     search (rules, length_at k z, book_short _ _ (passed k z))
 
