@@ -6,6 +6,7 @@ ghost use Rattle.model.specs.Record.{asked_number};
 ghost use Rattle.asked.specs.Asked.{counted_number};
 
 // The number of the first of the questions 1 to 14 that is answered no, or 0. A call that lists the policies itself learns by that whether there is one.
+#[tactic(auto, using(crate::proofs::Counts::too_low, crate::proofs::Counts::too_high))]
 pub fn counted_number(b: &[i32], k: usize) -> u32
     ensures { result ≡ counted_number b.now k }
 {

@@ -45,6 +45,7 @@ fn byte_allowed(b: &[i32], z: Sizes, p: usize, reached: bool, c: usize, at: usiz
 }
 
 // 17, and the cost: is the slice a policy of a checked book, and what does it cost?
+#[tactic(auto, using(crate::proofs::Pass::wrong_length))]
 pub fn judge(b: &[i32], z: Sizes, plan: &[u8]) -> Judged
     requires { Checked b.now z }
     ensures { (result.is ≡ is_policy b.now plan.now) × (is_policy b.now plan.now ≡ true → result.cost ≡ policy_cost b.now plan.now) }

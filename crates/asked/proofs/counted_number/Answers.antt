@@ -3,10 +3,9 @@
 use mathlib.Core.Path.{◌≡◌, sym, ◌∙◌}
 use mathlib.Core.List.{[]}
 use native.Mathlib.Omega.{arith}
-use borrow.Author.Tests.{lt-leb, le-leb}
+use borrow.Author.Tests.{le-leb}
 use Rattle.model.specs.Questions.{book_number}
-use Rattle.questions.specs.Ranges.{and_right}
-use Rattle.questions.specs.FirstNo.{fails, passes, none}
+use Rattle.questions.specs.FirstNo.{passes, none}
 use Rattle.questions.specs.Answers.{stops, goes_on}
 use Rattle.asked.specs.Asked.{counted_number}
 use Rattle.asked.proofs.counted_number.Goals as goal
@@ -19,17 +18,8 @@ pub returns-then-no-ne0 : goal.returns-then-no-ne0
 unfolding counted_number
 returns-then-no-ne0 c = stops c.check-no.ensures _ c.if-no-ne0.true
 
-pub returns-then-k-lt1 : goal.returns-then-k-lt1
-unfolding counted_number
-returns-then-k-lt1 c = goes_on (good (goal.at.returns-then-k-lt1 c).Else-no-ne0) (sym (fails _ _ _ (rw (lt-leb 1 _ c.if-k-lt1.true))))
-
-pub returns-then-k-gt64 : goal.returns-then-k-gt64
-unfolding counted_number
-returns-then-k-gt64 c = goes_on (good (goal.at.returns-then-k-gt64 c).Else-no-ne0) (sym (fails _ _ _ (rw (lt-leb _ 64 c.if-k-gt64.true, and_right))))
-
 pub returns : goal.returns
 unfolding counted_number
 returns c =
-    let e = c in
-    let k = e.args.k in
-    goes_on (good (goal.at.returns e).Else-no-ne0) (sym (passes k _ [] (rw (le-leb 1 k (omega (arith, c.if-k-lt1.false)), le-leb k 64 (omega (arith, c.if-k-gt64.false)))) ∙ none k))
+    let k = c.args.k in
+    goes_on (good (goal.at.returns c).Else-no-ne0) (sym (passes k _ [] (rw (le-leb 1 k (omega arith), le-leb k 64 (omega arith))) ∙ none k))

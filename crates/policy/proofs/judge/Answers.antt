@@ -14,19 +14,14 @@ use Rattle.splits.specs.Reach.{spread}
 use Rattle.book.proofs.Stages.{for_stage}
 use Rattle.costs.proofs.Sums.{read64}
 use Rattle.reach.specs.Weights.{weight_at, Holds}
-use Rattle.policy.proofs.Pass.{weighs, wrong_length, byte_refused, byte-action, room}
+use Rattle.policy.proofs.Pass.{weighs, byte_refused, byte-action, room}
 use Rattle.policy.proofs.Walk.{begin, finished, small, fits, reached_on, unreached_on}
 use Rattle.policy.proofs.judge.Goals as goal
 use Rattle.policy.proofs.judge.Goals.{In-loop-p, Else-not-byte_allowed, then-reached, else-reached}
 
-pub returns-then-n-s : goal.returns-then-n-s
-returns-then-n-s c =
-    let is = wrong_length c.args.b.now c.args.plan.now (λ e. c.if-n-s.true (e ∙ sym c.requires.sizes.s_is)) in
-    (sym is, λ e. absurd (true≢false (sym e ∙ is)))
-
 pub loop-p-init : goal.loop-p-init
 loop-p-init c =
-    begin c.args.b.now c.args.z c.requires c.args.plan.now c.first_weights-w.result (c.if-n-s.false ∙ c.requires.sizes.s_is)
+    begin c.args.b.now c.args.z c.requires c.args.plan.now c.first_weights-w.result (omega (arith, c.requires.sizes.s_is))
     c.first_weights-w.ensures
 
 -- in the loop, at state p
