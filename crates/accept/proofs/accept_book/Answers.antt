@@ -5,7 +5,7 @@ use mathlib.Core.Path.{◌≡◌, sym, ap₂, ◌∙◌}
 use Prim.Native.Nat.{ℕ}
 use native.Mathlib.Omega.{arith}
 use Rattle.model.specs.Model.{Words}
-use Rattle.model.specs.Record.{carried_k, carried_book, accept_number}
+use Rattle.model.specs.Record.{accept_number}
 use Rattle.model.specs.Calls.{accept_states, accept_count}
 use Rattle.questions.specs.Answers.{stops, goes_on, leaves, gives}
 use Rattle.asked.specs.Asked.{counted_number, counted_says, counted_stops, list_none, list_some, asked_passed}
