@@ -28,7 +28,7 @@ returns-then-out-length c =
     let ok = asked c.args.t.now c.table_number-no.ensures c.if-no-ne0.false in
     let p = table_passed c.args.t.now ok c.read_table-z.ensures in
     let l = measured p c.measure-s.ensures in
-    refusal _ _ 27 (of_room _ _ ok (omega (arith, c.if-out-length.true, l))) (λ z. omega arith) _ c.refused-then-out-length.ensures
+    refusal _ _ 27 (of_room _ _ ok (omega (arith, l))) (λ z. omega arith) _ c.refused-then-out-length.ensures
 
 pub returns-then-lines-gt2048 : goal.returns-then-lines-gt2048
 returns-then-lines-gt2048 c =
@@ -37,7 +37,7 @@ returns-then-lines-gt2048 c =
     let q = c.measure-s.ensures in
     let l = measured p q in
     refusal _ _ 4
-    (of_book _ _ ok (omega (arith, c.if-out-length.false, l)) (too_many_lines _ p.given p.lines (omega (arith, c.if-lines-gt2048.true, q.lines_is))))
+    (of_book _ _ ok (omega (arith, l)) (too_many_lines _ p.given p.lines (omega (arith, q.lines_is))))
     (λ z. omega arith) _ c.refused-then-lines-gt2048.ensures
 
 pub returns-then-states-gt64 : goal.returns-then-states-gt64
@@ -47,8 +47,8 @@ returns-then-states-gt64 c =
     let q = c.measure-s.ensures in
     let l = measured p q in
     refusal _ _ 6
-    (of_book _ _ ok (omega (arith, c.if-out-length.false, l))
-    (too_many_states _ p.given p.lines (omega (arith, c.if-lines-gt2048.false, q.lines_is)) (omega (arith, c.if-states-gt64.true, q.states_is))))
+    (of_book _ _ ok (omega (arith, l))
+    (too_many_states _ p.given p.lines (omega (arith, q.lines_is)) (omega (arith, q.states_is))))
     (λ z. omega arith) _ c.refused-then-states-gt64.ensures
 
 pub put_checked-requires : goal.put_checked-requires
@@ -57,8 +57,8 @@ put_checked-requires c =
       ok,
       c.read_table-z.ensures,
       c.measure-s.ensures,
-      omega (arith, c.if-length-le512.true, c.short_room-room.ensures),
-      omega (arith, c.if-out-length.false),
+      omega (arith, c.short_room-room.ensures),
+      omega arith,
     )
 
 pub put_checked-requires-2 : goal.put_checked-requires-2
@@ -66,5 +66,5 @@ put_checked-requires-2 c =
     let ok = asked c.args.t.now c.table_number-no.ensures c.if-no-ne0.false in
     let p = table_passed c.args.t.now ok c.read_table-z.ensures in
     let q = c.measure-s.ensures in
-    let s = short p q (omega (arith, c.if-lines-gt2048.false)) (omega (arith, c.if-states-gt64.false)) in
-    (ok, c.read_table-z.ensures, q, omega (arith, s, c.no_book-room.ensures), omega (arith, c.if-out-length.false))
+    let s = short p q (omega arith) (omega arith) in
+    (ok, c.read_table-z.ensures, q, omega (arith, s, c.no_book-room.ensures), omega arith)
