@@ -15,12 +15,13 @@ pub fn opened(desk: Desk, record: &[u8]) -> Answer
     desk.opening(a.no, a.k as u8)
 }
 
-// Holds a rank for a rider, whose earlier hold is dropped.
+// Holds a rank for a rider, whose earlier hold is dropped. A rank that is listed is a byte, as k is one.
 pub fn ask(desk: &mut Desk, rider: usize, rank: usize) -> u32
     ensures { reply result desk.new ≡ asking desk.old rider rank }
 {
     let no = desk.ask_number(rider, rank);
     if no == 0 {
+        prove!(rank <= desk.k as usize);
         desk.held[rider] = rank as u8;
     }
     no

@@ -1,6 +1,0 @@
-mod Lent
-mod Ranks
-mod Item
-mod Method
-mod Rider
-mod Looked
