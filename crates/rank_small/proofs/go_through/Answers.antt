@@ -1,25 +1,20 @@
 -- Assumes nothing.
 use mathlib.Core.Path.{◌≡◌, refl, sym, ◌∙◌, subst}
-use mathlib.Core.Bool.{Bool, true, false}
 use mathlib.Core.List.{List}
-use mathlib.Core.Option.{some}
-use Prim.Native.Nat.{ℕ, ◌-◌, ◌≤◌, ◌<◌}
+use Prim.Native.Nat.{ℕ, ◌≤◌}
 use native.Mathlib.Numerals.{add-one}
 use native.Mathlib.Omega.{arith}
 use lib.IntN.{ℤ}
-use lib.ListN.{length, get_elem?}
-use Rattle.model.specs.Model.{Words, state_count}
-use Rattle.model.specs.Questions.{book_number}
+use lib.ListN.{length}
+use Rattle.model.specs.Model.{Words}
 use Rattle.model.specs.Policy.{Policy, policies}
 use Rattle.model.specs.Path.{policy_cost}
 use Rattle.laws.specs.Entries.{at_low}
 use Rattle.accepted.specs.Demands.{policy-bytes}
-use Rattle.enumerate.specs.Steps.{Stands}
 use Rattle.enumerate.proofs.Places.{first_at, next_at_lem, last_at}
 use Rattle.best_kept.specs.Holding.{Holds, kept_holds}
 use Rattle.rank_small.specs.Small.{RoomFor}
 use Rattle.rank_small.specs.Through.{best_of_first, best_few, held_ascends, best-more, best_wide, best_none, best-all}
-use Rattle.rank_small.proofs.go_through.Invariants.{Gone}
 use Rattle.rank_small.proofs.go_through.Goals as goal
 
 pub first-requires : goal.first-requires

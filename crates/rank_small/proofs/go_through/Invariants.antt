@@ -1,25 +1,18 @@
 -- The first k of the first j policies stand in the slices, and policy j is at hand, if there is one.
 -- Assumes nothing.
-use mathlib.Core.Path.{◌≡◌, refl, sym, ◌∙◌, subst}
+use mathlib.Core.Path.{◌≡◌}
 use mathlib.Core.Bool.{Bool, true, false}
 use mathlib.Core.List.{List}
 use mathlib.Core.Option.{some}
-use Prim.Native.Nat.{ℕ, ◌-◌, ◌≤◌, ◌<◌}
-use native.Mathlib.Numerals.{add-one}
-use native.Mathlib.Omega.{arith}
+use Prim.Native.Nat.{ℕ, ◌-◌}
 use lib.IntN.{ℤ}
 use lib.ListN.{length, get_elem?}
 use Rattle.model.specs.Model.{Words, state_count}
-use Rattle.model.specs.Questions.{book_number}
 use Rattle.model.specs.Policy.{Policy, policies}
 use Rattle.model.specs.Path.{policy_cost}
-use Rattle.laws.specs.Entries.{at_low}
-use Rattle.accepted.specs.Demands.{policy-bytes}
 use Rattle.enumerate.specs.Steps.{Stands}
-use Rattle.enumerate.proofs.Places.{first_at, next_at_lem, last_at}
-use Rattle.best_kept.specs.Holding.{Holds, kept_holds}
-use Rattle.rank_small.specs.Small.{RoomFor}
-use Rattle.rank_small.specs.Through.{best_of_first, best_few, held_ascends, best-more, best_wide, best_none, best-all}
+use Rattle.best_kept.specs.Holding.{Holds}
+use Rattle.rank_small.specs.Through.{best_of_first}
 use Rattle.rank_small.proofs.go_through.Given as goal
 
 pub record Gone (ws : Words) (k : ℕ) (costs₀ : List ℤ) (plans₀ : List ℕ) (plan : Policy) (costs : List ℤ) (plans reach : List ℕ) (n j : ℕ) (more : Bool) : Type 0 where

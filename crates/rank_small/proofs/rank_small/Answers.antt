@@ -7,20 +7,18 @@ use Prim.Native.Nat.{ℕ, ◌*◌, ◌≤◌, ◌<◌}
 use native.Mathlib.Nat.{mul-le-mul}
 use native.Mathlib.Omega.{arith}
 use borrow.Author.Tests.{le-leb, lt-leb, leb-true}
-use lib.Dec.{leb}
-use lib.ListN.{length, take}
+use lib.ListN.{length}
 use lib.Seq.{length-take-le}
 use Rattle.model.specs.Model.{Words, state_count}
 use Rattle.model.specs.Questions.{book_number}
 use Rattle.model.specs.Policy.{policies, has_policy}
-use Rattle.model.specs.Calls.{Room, room_of, is_small, most_small, small_number}
+use Rattle.model.specs.Calls.{room_of, is_small, most_small, small_number}
 use Rattle.accepted.specs.Facts.{accepted}
 use Rattle.accepted.specs.Shape.{shape, has_is}
 use Rattle.questions.specs.Answers.{stops}
 use Rattle.asked.specs.Asked.{Counted, counted_number, counted_says, counted_stops}
 use Rattle.feasible.specs.Barred.{BarredFrom, all_barred}
 use Rattle.sets.specs.Sets.{has}
-use Rattle.rank_small.specs.Small.{SmallRanked}
 use Rattle.rank_small.specs.Numbers.{small_none, small_many, small_costs_lem, small_plans_lem, small_fits, refused, listed}
 use Rattle.rank_small.proofs.rank_small.Goals as goal
 
