@@ -1,6 +1,6 @@
 -- A granted committing writes one byte of each row of ranks, and a refused one nothing.
 -- Assumes nothing.
-use mathlib.Core.Path.{◌≡◌, sym, ap, ◌∙◌}
+use mathlib.Core.Path.{sym, ◌∙◌}
 use native.Mathlib.Omega.{arith}
 use Rattle.reservation.specs.Reservations.{committing}
 use Rattle.reservation.specs.Numbers.{refused, granted, commit_says}
