@@ -1,21 +1,11 @@
 -- None of the first i parts keeps the limit, so that those still to be looked at say how many more stand above the first that does.
 -- Assumes nothing.
-use mathlib.Core.Path.{◌≡◌, sym, ap, ◌∙◌}
-use mathlib.Core.Bool.{true, false}
-use mathlib.Core.List.{List, ◌∷◌}
-use Prim.Native.Nat.{ℕ, suc, ◌+◌, ◌-◌, ◌*◌, ◌≤◌}
-use native.Mathlib.Nat.{zero-add}
-use native.Mathlib.Omega.{arith}
-use borrow.Author.Tests.{le-leb, lt-leb}
-use lib.Dec.{leb}
-use lib.ListN.{length, take, drop}
+use mathlib.Core.Path.{◌≡◌}
+use Prim.Native.Nat.{◌+◌, ◌-◌, ◌≤◌}
 use Rattle.model.specs.Lists.{first_where}
-use Rattle.model.specs.Model.{Words, state_count}
-use Rattle.model.specs.Policy.{Policy}
-use Rattle.model.specs.Limit.{Limit, limit_of, keeps_limit, mark_of}
-use Rattle.record.specs.Parts.{parts, parts-left, part-inside}
-use Rattle.path_sums.specs.Books.{most_over}
-use Rattle.marked.specs.Kept.{by_most}
+use Rattle.model.specs.Model.{state_count}
+use Rattle.model.specs.Limit.{limit_of, keeps_limit}
+use Rattle.record.specs.Parts.{parts}
 use Rattle.limit.proofs.above_kept.Given as goal
 
 abbrev pub invariant-loop-i : goal.invariant-loop-i
