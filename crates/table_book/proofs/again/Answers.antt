@@ -1,11 +1,13 @@
 -- Assumes nothing.
 use mathlib.Core.Path.{◌≡◌, refl, sym, ap, ◌∙◌}
 use mathlib.Core.List.{◌∷◌}
-use Prim.Native.Nat.{◌+◌, ◌-◌}
+use Prim.Native.Nat.{◌+◌, ◌-◌, ◌<◌}
 use native.Mathlib.Omega.{arith}
 use lib.IntN.{ℤ, pos}
 use lib.ListN.{take, drop, get_or}
 use lib.Seq.{get_or-set_other}
+use lib.Signed.{mag}
+use borrow.Author.Rules.{rules}
 use Rattle.book.proofs.Words.{read32}
 use Rattle.bytes_io.proofs.Parts.{fill_start, fill_one, fill_end, part_step}
 use Rattle.table_book.proofs.again.Goals as goal
@@ -25,7 +27,8 @@ loop-i-preserved c =
     let x = get_or l.out p (pos 0) in
     let e = l.invariant.1 p (omega (arith, c.requires.0)) in
     let step = part_step o l.i s.count p (s.from + (l.i + 1)) (pos 0) (omega arith) (omega (arith, c.requires.0)) (omega arith) in
-    rw (read32 x c.out-1.given) (
+    let w : mag x < 2147483648 = search rules in
+    rw (read32 x w) (
       fill_one _ _ _ _ c.requires.1 l.invariant.0 x _ refl (omega arith)
           (step ∙ ap (λ (y : ℤ). y ∷ take (s.count - (l.i + 1)) (drop (s.from + (l.i + 1)) o)) (sym e)),
       λ j h. get_or-set_other l.out (s.at + l.i) j x (pos 0) (omega arith) ∙ l.invariant.1 j h,
