@@ -6,7 +6,8 @@ use lib.ListN.{length, get_or, length-set}
 use Rattle.model.specs.Model.{Words, scale, togo, state_count, action}
 use Rattle.model.specs.Questions.{book_number}
 use Rattle.model.specs.Policy.{Policy}
-use Rattle.model.specs.Path.{byte_at}
+use Rattle.model.specs.Path.{byte_at, policy_cost}
+use Rattle.std.proofs.Common.{rules}
 use Rattle.model.specs.Recursion.{action_cost}
 use Rattle.accepted.specs.Facts.{accepted}
 use Rattle.accepted.specs.Options.{Option}
@@ -110,9 +111,8 @@ loop-p-preserved c =
 
 pub returns : goal.returns
 returns c =
-    let l = c in
-    let s = l in
-    let z : l.loop-p.p ≡ 0 = omega (arith, c.loop-p-test.false) in
-    read64 _ c.result-1.given
-    ∙ whole s.args.b.now s.requires.0.checked.ok s.args.plan.now s.requires.1 l.loop-p.v
-    (subst (λ (n : ℕ). Has s.args.b.now s.args.plan.now n l.loop-p.v) z l.loop-p.invariant.2)
+    let z : c.loop-p.p ≡ 0 = omega (arith, c.loop-p-test.false) in
+    let e : value_at c.loop-p.v 0 ≡ policy_cost c.args.b.now c.args.plan.now
+    = whole c.args.b.now c.requires.0.checked.ok c.args.plan.now c.requires.1 c.loop-p.v
+    (subst (λ (n : ℕ). Has c.args.b.now c.args.plan.now n c.loop-p.v) z c.loop-p.invariant.2) in
+    search (rules, e)
