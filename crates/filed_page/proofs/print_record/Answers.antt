@@ -56,7 +56,7 @@ asked_of : {ws ws' : Words} {k k' : ℕ} → ws ≡ ws' → k ≡ k' → Asked w
 asked_of b e a = rw (b, e) a
 
 pub put_page-requires-2 : goal.put_page-requires-2
-put_page-requires-2 c =
+put_page-requires-2 c _ =
     let a = good c.args.r.now c.accept-a.ensures.0 c.if-a-ne0.false in
     asked_of (book_is _ c.args.r.now c.carried_length-w.ensures.0 c.read_book.ensures.0) c.carried_k-k.ensures.0 a.asked
 
