@@ -15,7 +15,7 @@ use Rattle.page_lines.specs.Put.{put_same}
 use Rattle.filed_page.proofs.print_record.Goals as goal
 
 pub put_page-requires : goal.put_page-requires
-put_page-requires c z = absurd (c.if-a-ne0.true z)
+put_page-requires c z = absurd (omega (arith, c.if-a-ne0.true))
 
 pub returns-then-a-ne0 : goal.returns-then-a-ne0
 unfolding record_page
