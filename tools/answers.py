@@ -1,5 +1,6 @@
 #!/usr/bin/env python3
-"""Turns Proof.antt files of the form tie.close (tie.spec ..) to Invariants.antt and Answers.antt. usage: conv.py NAMES CRATE.. (at the top); NAMES as `rt names` writes it"""
+"""Turns Proof.antt files of the form `tie.close (tie.spec ..)` to Invariants.antt and Answers.antt. usage: tools/answers.py NAMES CRATE.. at the top of the
+repository; NAMES is the folder that `rt names` wrote. It was run once; what it left was mended by hand (docs/PORT.md)."""
 import json, os, re, sys, glob
 
 TOK = r"[^\s(){}\[\].,;:«»\"`|@]+"

@@ -10,13 +10,14 @@ library and names that goals have stay as they are.
 
 import os
 import re
+import shutil
 import sys
 
 WORD = re.compile(r"[^\s(){}\[\].,;:«»\"`|@]+")
 DEF = re.compile(r"^(\s*)((?:(?:abbrev|unfoldable|pub|data|record|module) )*)([^\s(){}\[\].,;:«»\"`|@]+)((?: +[({][^:]*:[^)}]*[)}])*) :(?: (.*))?$")
 WORDS = {"let", "where", "in", "λ", "use", "elim", "open", "module", "_"}
 GOAL = re.compile(r"^(tie\.|goal\.|statement\b)")
-KIT = "/opt/rattle/rattle"
+KIT = os.path.join(os.path.dirname(os.path.dirname(os.path.realpath(shutil.which("rt") or "rt"))), "rattle")
 
 
 def files(ends, tops=("crates",)):
