@@ -1,4 +1,3 @@
 pub mod Kept
 pub mod Answers
-pub mod Calls
 pub mod Example

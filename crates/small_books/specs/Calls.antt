@@ -1,19 +1,18 @@
 -- The numbers of the call of request 2.11.
 -- Assumes nothing.
-use Rattle.std.specs.Prelude.{◌≡◌, Bool, true, false, ◌↔◌, [], ◌*◌, ◌≤◌, leb, length}
+use Rattle.std.specs.Prelude.{◌≡◌, ◌↔◌, [], ◌*◌, ◌≤◌, length}
 use Rattle.std.proofs.Math.Path.{refl}
-use Rattle.std.proofs.Common.{sym, ◌∙◌}
+use Rattle.std.proofs.Common.{◌∙◌}
 use native.Mathlib.Omega.{arith}
-use borrow.Author.Tests.{leb-true, leb-false, le-leb, lt-leb}
+use borrow.Author.Tests.{leb-true, le-leb}
 use Rattle.model.specs.Model.{Words, state_count}
-use Rattle.model.specs.Questions.{first_no, book_number}
+use Rattle.model.specs.Questions.{book_number}
 use Rattle.model.specs.Policy.{policies}
 use Rattle.model.specs.Record.{asked_number}
-use Rattle.model.specs.Calls.{Room, room_questions, most_small, is_small, small_questions, small_number}
+use Rattle.model.specs.Calls.{Room, most_small, is_small, small_questions, small_number}
 use Rattle.accepted.specs.Demands.{NoPolicy}
-use Rattle.questions.specs.FirstNo.{passed, passes, fails, none, never, then_yes, then_zero}
+use Rattle.questions.specs.FirstNo.{passed, passes, none, then_yes, then_zero}
 use Rattle.asked.specs.Asked.{Asked, asked_says, asked_passed, before_28}
-use Rattle.small_books.specs.Count.{MoreThan, more_is}
 
 module _ (ws : Words) (room : Room) where
   -- a book, K and slices that pass every question
@@ -44,21 +43,6 @@ module _ (ws : Words) (room : Room) where
           ∙ passes room _ _ (le-leb (length (policies ws)) most_small h.few)
           ∙ passes room _ _ (le-leb room.k room.costs h.costs_room)
           ∙ passes room _ [] (le-leb (room.k * state_count ws) room.plans h.plans_room) ∙ none room
-
-  -- "Refused: 30, more than 4,096 plans, after 28 and before 15": whatever the slices
-  pub small_30 : Asked ws room.k → (small_number ws room ≡ 30) ↔ MoreThan ws most_small
-  unfolding small_number is_small
-  small_30 a = (λ e. go (leb (length (policies ws)) most_small) refl (sym number ∙ e), from)
-    where
-      number : small_number ws room ≡ first_no (small_questions ws) room
-      number = then_yes (asked_number ws room.k) _ (asked_passed ws room.k a)
-
-      go : (t : Bool) → leb (length (policies ws)) most_small ≡ t → first_no (small_questions ws) room ≡ 30 → MoreThan ws most_small
-      go true q e = absurd (never room 30 (omega arith) (room_questions ws) (refl, (refl, tt)) (sym (passes room _ (room_questions ws) q) ∙ e))
-      go false q e = (more_is ws a.ok most_small).0 (leb-false (length (policies ws)) most_small q)
-
-      from : MoreThan ws most_small → small_number ws room ≡ 30
-      from h = number ∙ fails room _ _ (lt-leb (length (policies ws)) most_small ((more_is ws a.ok most_small).1 h))
 
   -- "after 28": a book without a plan gets 28, whatever the slices
   pub small_28 : book_number ws ≡ 0 → 1 ≤ room.k → room.k ≤ 64 → (small_number ws room ≡ 28) ↔ NoPolicy ws

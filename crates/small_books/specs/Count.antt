@@ -1,14 +1,11 @@
 -- How many plans a book has: the enumeration has each once, so it has more than m exactly if there are more than m different plans.
 -- Assumes nothing.
-use Rattle.std.specs.Prelude.{◌≡◌, refl, ◌⊎◌, ◌↔◌, List, [], ◌∷◌, ◌++◌, ℕ, ◌≤◌, ◌<◌, T, length}
+-- ---- lists without repeats
+use Rattle.std.specs.Prelude.{◌≡◌, refl, ◌⊎◌, List, [], ◌∷◌, ◌++◌, ℕ, ◌≤◌, ◌<◌, T, length}
 use Rattle.std.proofs.Common.{sym, ap, subst, inl, inr, arith, length-append}
 use Rattle.model.specs.Model.{Words}
-use Rattle.model.specs.Questions.{book_number}
-use Rattle.model.specs.Policy.{Policy, is_policy, policies}
+use Rattle.model.specs.Policy.{Policy, is_policy}
 use Rattle.laws.specs.Members.{In, in_++, ++-in, Apart}
-use Rattle.accepted.specs.Demands.{policies_are, policies_once}
-
--- ---- lists without repeats
 
 module _ {A : Type 0} where
   -- where an element stands
@@ -41,17 +38,9 @@ module _ {A : Type 0} where
       (λ z i. beside x z p.left p.right (λ e. a.0 (subst (λ (w : A). In w xs) e i)) (subst (λ (l : List A). In z l) p.whole (h z (inr i)))) in
       omega (arith, rest, ap length p.whole, length-append p.left p.right, length-append p.left (x ∷ p.right))
 
--- ---- plans
-
 -- more than m plans that all differ
 pub record MoreThan (ws : Words) (m : ℕ) : Type 0 where
   pub plans : List Policy
   pub each : (bs : Policy) → In bs plans → T (is_policy ws bs)
   pub differ : Apart plans
   pub more : m < length plans
-
-pub more_is : (ws : Words) → book_number ws ≡ 0 → (m : ℕ) → (m < length (policies ws)) ↔ MoreThan ws m
-more_is ws ok m = (
-  λ h. record { plans = policies ws; each = λ bs i. (policies_are ws ok bs).0 i; differ = policies_once ws ok; more = h },
-  λ h. omega (arith, h.more, apart_most h.plans (policies ws) h.differ (λ bs i. (policies_are ws ok bs).1 (h.each bs i))),
-)

@@ -1,4 +1,3 @@
 pub mod Place
 pub mod Reasons
-pub mod Calls
 pub mod Example

@@ -14,7 +14,8 @@ use Rattle.questions.specs.Answers.{gives}
 use Rattle.accepted.specs.Demands.{NoPolicy}
 use Rattle.asked.specs.Asked.{Asked, asked_says, asked_passed, before_28}
 use Rattle.marks.specs.Allowed.{Allowed, allowed_is}
-use Rattle.marked.specs.Answers.{Fits, answer-true}
+use Rattle.marked.specs.Answers.{Fits}
+use Rattle.marked.proofs.Answers.{answer-true}
 
 module _ (ws : Words) (k : ℕ) (limit : Limit) where
   -- a book, K, marks and m that pass every question

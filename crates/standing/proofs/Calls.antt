@@ -14,7 +14,8 @@ use Rattle.questions.specs.FirstNo.{passed, passes, fails, none, then_yes, then_
 use Rattle.questions.specs.Answers.{gives}
 use Rattle.accepted.specs.Demands.{NoPolicy}
 use Rattle.asked.specs.Asked.{Asked, asked_says, asked_passed, before_28}
-use Rattle.standing.specs.Reasons.{Fits, reason_true}
+use Rattle.standing.specs.Reasons.{Fits}
+use Rattle.standing.proofs.Reasons.{reason_true}
 
 module _ (ws : Words) (k : ℕ) (bs : Policy) where
   -- a book, K and plan that pass every question
