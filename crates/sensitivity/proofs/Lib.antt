@@ -1,3 +1,4 @@
 pub mod Moves
 pub mod Records
 pub mod Same
+pub mod Options

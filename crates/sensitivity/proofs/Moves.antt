@@ -26,8 +26,8 @@ use Rattle.laws.specs.Raises.{raise, weight_past, past_most, past_start, rise_at
 use Rattle.accepted.specs.Shape.{shape}
 use Rattle.accepted.specs.Demands.{policies_are, weights_add_lem}
 use Rattle.sensitivity.specs.Raise.{raised, most_rise, weight_through}
-use Rattle.sensitivity.proofs.Same.{options-same}
-use Rattle.sensitivity.specs.Same.{scale_same, horizon-same, states-same, action-raised}
+use Rattle.sensitivity.proofs.Options.{options-same}
+use Rattle.sensitivity.proofs.Same.{scale_same, horizon-same, states-same, action-raised}
 
 module _ (ws us : Words) (e : ℕ) (same : policies us ≡ policies ws)
     (near : (bs : Policy) → In bs (policies ws) → (policy_cost ws bs ≤ℤ policy_cost us bs) × (policy_cost us bs ≤ℤ (policy_cost ws bs +ℤ pos e))) where

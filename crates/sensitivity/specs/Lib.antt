@@ -1,3 +1,2 @@
 pub mod Raise
-pub mod Same
 pub mod Records
