@@ -1,3 +1,2 @@
 pub mod Former
 pub mod Rows
-pub mod Same

@@ -31,7 +31,7 @@ use Rattle.accepted.specs.Shape.{policy_is, action_is, weights_read, no_weight, 
 use Rattle.accepted.specs.Demands.{policies_are, in_list}
 use Rattle.record.specs.Demand2.{written_accepted}
 use Rattle.branch_limit.specs.Former.{branches_within, lines_within, WithinLimit, former_most}
-use Rattle.branch_limit.specs.Same.{lines_agree, within}
+use Rattle.branch_limit.proofs.Same.{lines_agree, within}
 use Rattle.no_stops.specs.Base.{base_lines, base_weights, base_question, base_number, base_paths_from, base_paths, base_cost, base_ranking}
 use Rattle.no_stops.specs.Base.{base_costs, base_record}
 

@@ -1,6 +1,7 @@
 -- "That figure becomes the limit": a book is accepted exactly if the rules before the request accept it and no action has more transitions than the
 -- limit; one with more gets 9. "No filed record is affected": its number, its list and its bytes are the same.
 -- Assumes nothing.
+-- ---- question 9 with other limits
 use Rattle.std.specs.Prelude.{◌≡◌, Bool, true, false, ◌&&◌, cond, ◌↔◌, List, map, ℕ, ◌<◌, eqb, leb, ℤ, pos}
 use Rattle.std.proofs.Math.Path.{refl, sym}
 use Rattle.std.proofs.Common.{ap, ◌∙◌, arith}
@@ -15,8 +16,6 @@ use Rattle.questions.specs.Calls.{accept_number_by, SameCalls, same-calls, same_
 use Rattle.accepted.specs.Facts.{each_action, every-same, most-branches, lines_say, accepted}
 use Rattle.record.specs.Passed.{accept_says}
 use Rattle.branch_limit.specs.Former.{branches_within, lines_within, WithinLimit, former_most, former_question, former_number}
-
--- ---- question 9 with other limits
 
 -- limits that agree on each r before stage H
 pub lines_agree : (ws : Words) (lo hi from to : ℕ)
