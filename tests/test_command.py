@@ -1,5 +1,5 @@
 #!/usr/bin/env python3
-"""Tests of ./kbest with the programs in target/bin, which must be built; the first run with a toolchain that is acted. Run: python3 tests/test_command.py"""
+"""Tests of ./kbest with the programs in target/bin, which must be built; the first run with a tools/build.sh that is acted. Run: python3 tests/test_command.py"""
 
 import contextlib
 import decimal
@@ -725,7 +725,7 @@ class Written(Folder):
         self.assertEqual(self.content('all'), OLD + tours.PAGE.encode())
 
 
-# ---- the first run, with an acted toolchain
+# ---- the first run, with an acted tools/build.sh
 
 CRATES = '# a comment: not a crate\nlaws:\npage: laws io    # io is a library\nother: laws\n\nkbest: page io\nkbest_file: page io\nkbest_page: page io\n\
 kbest_find: page io\nkbest_limit: page io\nkbest_table: laws io\n'

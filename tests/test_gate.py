@@ -14,6 +14,7 @@ echo "rt $*" >>calls
 case "$1 $ACT" in
 "ci ci") echo "rt: FAILED: x"; echo "56 passed, 1 failed"; exit 1 ;;
 "ci broken") echo "%s"; exit 2 ;;
+"ci layout") echo "run rt fmt in the crate's folder"; echo "rt: x NOT PROVED"; echo "56 passed, 1 failed"; exit 1 ;;
 "ci bad") echo "rt: ok: 3 crates, must-fail edits: 9 refused, 1 bad"; echo "%s"; exit 0 ;;
 ci*) rm -rf target; echo "rt: ok"; echo "%s" ;;
 esac
@@ -65,6 +66,7 @@ class Gate(Script):
         ways = {
             'needs': ('FAILED: something that the tests need is missing', []),
             'ci': ('FAILED: rt ci', ['rt ci']),
+            'layout': ('FAILED: rt ci', ['rt ci']),
             'broken': ('FAILED: rt ci', ['rt ci']),
             'bad': ('FAILED: a must-fail edit that cannot be read', ['rt ci']),
             'tests': ('FAILED: tests/run.sh', ['rt ci', 'tests']),
