@@ -34,8 +34,7 @@ fn lines_rise(b: &[i32], at: usize, l: usize, r: usize, d: usize) -> bool
 {
     let mut before: i32 = -1;
     let mut sum: usize = 0;
-    let mut i: usize = 0;
-    while i < r {
+    for i in 0..r {
         if !book::word_above(b, at + i, before) {
             return false;
         }
@@ -44,7 +43,6 @@ fn lines_rise(b: &[i32], at: usize, l: usize, r: usize, d: usize) -> bool
         }
         before = book::word_at(b, at + i);
         sum = sum + book::size_at(b, at + l + i);
-        i = i + 1;
     }
     sum <= d
 }
@@ -69,8 +67,7 @@ fn nexts_allowed(b: &[i32], at: usize, r: usize, width: usize) -> bool
     ensures { result ≡ all r (next_allowed b.now at width) }
 {
     let mut prev: i32 = -1;
-    let mut i: usize = 0;
-    while i < r {
+    for i in 0..r {
         if !book::word_above(b, at + i, prev) {
             return false;
         }
@@ -78,7 +75,6 @@ fn nexts_allowed(b: &[i32], at: usize, r: usize, width: usize) -> bool
             return false;
         }
         prev = book::word_at(b, at + i);
-        i = i + 1;
     }
     true
 }

@@ -65,12 +65,10 @@ pub fn words_in(b: &[i32], at: usize, n: usize, lo: i32, hi: i32) -> bool
     requires { at + n ≤ length b.now }
     ensures { result ≡ all n (λ i. inside lo hi (word b.now (at + i))) }
 {
-    let mut i: usize = 0;
-    while i < n {
+    for i in 0..n {
         if !word_in(b, at + i, lo, hi) {
             return false;
         }
-        i = i + 1;
     }
     true
 }
@@ -125,10 +123,8 @@ fn states(b: &[i32], h: usize) -> usize
     ensures { (result ≡ state_count b.now) × (result ≤ 19327352832) }
 {
     let mut s: usize = 0;
-    let mut n: usize = 0;
-    while n < h + 1 {
+    for n in 0..h + 1 {
         s = s + size_at(b, 3 + n);
-        n = n + 1;
     }
     s
 }

@@ -45,8 +45,7 @@ pub fn best_actions(
     ensures { BestOf b.now best.new × (1 < k → SecondOf b.now best.new) }
 {
     let s = z.s;
-    let mut p: usize = 0;
-    while p < s {
+    for p in 0..s {
         let n = index::count(b, z, p);
         let mask = off[p];
         let c = table::best_action(q, p, n, mask);
@@ -56,7 +55,6 @@ pub fn best_actions(
             let d = second_best(q, p, n, mask, c);
             best[64 + p] = d as u8;
         }
-        p = p + 1;
     }
 }
 
@@ -115,10 +113,8 @@ pub fn reached_before(b: &[i32], nx: &[u64; 512], plan: &[u8], r: usize) -> u64
     ensures { Passed b.now plan.now r result }
 {
     let mut reach: u64 = 1;
-    let mut s: usize = 0;
-    while s < r {
+    for s in 0..r {
         reach = pass_state(b, nx, plan, s, reach);
-        s = s + 1;
     }
     reach
 }
@@ -128,10 +124,8 @@ fn copy_before(plan: &[u8], r: usize, out: &mut [u8])
     requires { (r ≤ length plan.now) × (r ≤ length out.old) }
     ensures { out.new ≡ take r plan.now ++ drop r out.old }
 {
-    let mut i: usize = 0;
-    while i < r {
+    for i in 0..r {
         out[i] = plan[i];
-        i = i + 1;
     }
 }
 
@@ -152,12 +146,10 @@ pub fn build(
 {
     copy_before(plan, r, out);
     let mut reach = from;
-    let mut s = r;
-    while s < out.len() {
+    for s in r..out.len() {
         let a = choice(best, r, c, s);
         let t = step(b, nx, s, a, reach);
         out[s] = t.byte;
         reach = t.reach;
-        s = s + 1;
     }
 }

@@ -52,11 +52,9 @@ pub fn read_words(r: &[u8], at: usize, n: usize, out: &mut [i32])
     requires { (at + 4 * n ≤ length r.now) × (n ≤ length out.old) }
     ensures { (out.new ≡ over (words_of n (drop at r.now)) out.old) × (length out.new ≡ length out.old) }
 {
-    let mut i: usize = 0;
-    while i < n {
+    for i in 0..n {
         let x = read_word(r, at + 4 * i);
         out[i] = x;
-        i = i + 1;
     }
 }
 
@@ -110,10 +108,8 @@ pub fn write_words(out: &mut [u8], at: usize, ws: &[i32])
     ensures { out.new ≡ written out.old at (4 * length ws.now) (for_each (signed_bytes 4) ws.now) }
 {
     let n = ws.len();
-    let mut i: usize = 0;
-    while i < n {
+    for i in 0..n {
         write_low(out, at + 4 * i, to_unsigned(ws[i] as i64));
-        i = i + 1;
     }
 }
 
@@ -122,10 +118,8 @@ pub fn write_costs(out: &mut [u8], at: usize, costs: &[i64], k: usize)
     requires { (at + 8 * k ≤ length out.old) × (k ≤ length costs.now) }
     ensures { out.new ≡ written out.old at (8 * k) (for_each (signed_bytes 8) (take k costs.now)) }
 {
-    let mut i: usize = 0;
-    while i < k {
+    for i in 0..k {
         write_cost(out, at + 8 * i, costs[i]);
-        i = i + 1;
     }
 }
 
@@ -134,10 +128,8 @@ pub fn write_bytes(out: &mut [u8], at: usize, src: &[u8], n: usize)
     requires { (at + n ≤ length out.old) × (n ≤ length src.now) }
     ensures { out.new ≡ written out.old at n (take n src.now) }
 {
-    let mut i: usize = 0;
-    while i < n {
+    for i in 0..n {
         out[at + i] = src[i];
-        i = i + 1;
     }
 }
 

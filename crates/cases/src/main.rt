@@ -64,10 +64,8 @@ fn print_signed(x: i64) {
 }
 
 fn print_row(row: &[i64]) {
-    let mut i: usize = 0;
-    while i < row.len() {
-        print_signed(row[i]);
-        i = i + 1;
+    for x in row {
+        print_signed(*x);
     }
     io::write_all(1, b"\n");
 }
@@ -92,10 +90,8 @@ fn print_each(bytes: &[u8]) -> u64
     ensures { result < 36028797018963913 }
 {
     let mut d: u64 = 0;
-    let mut i: usize = 0;
-    while i < bytes.len() {
-        d = print_byte(d, i, bytes[i]);
-        i = i + 1;
+    for (i, x) in bytes.iter().enumerate() {
+        d = print_byte(d, i, *x);
     }
     d
 }
@@ -243,11 +239,7 @@ fn ranks_at(part: &[u8], from: usize) -> [u8; 16]
     if part.len() < from + 16 {
         return ranks;
     }
-    let mut i: usize = 0;
-    while i < 16 {
-        ranks[i] = part[from + i];
-        i = i + 1;
-    }
+    ranks.copy_from_slice(&part[from..from + 16]);
     ranks
 }
 
@@ -361,15 +353,13 @@ fn next_head(bytes: &[u8]) -> Head {
 fn run_commands(words: &mut [i32], bytes: &mut [u8]) -> bool {
     let mut n: usize = 0;
     let mut desk = Desk::fresh();
-    let mut left = u64::MAX;
-    while left > 0 {
+    for _ in 0..u64::MAX {
         let h = next_head(bytes);
         if h.kind == b'e' {
             return h.z == 0;
         }
         n = obey(h, n, words, bytes);
         desk = serve_part(h, desk, bytes);
-        left = left - 1;
     }
     false
 }
@@ -381,8 +371,9 @@ fn run_case() -> bool {
 }
 
 fn main() {
-    let mut left = u64::MAX;
-    while left > 0 && run_case() {
-        left = left - 1;
+    for _ in 0..u64::MAX {
+        if !run_case() {
+            break;
+        }
     }
 }

@@ -40,8 +40,7 @@ fn walk_state(b: &[i32], z: Sizes, q: Limits, p: usize, start: Walk) -> Walk
 {
     let count = book::size_at(b, 4 + z.h + p);
     let mut w = start;
-    let mut c: usize = 0;
-    while c < count {
+    for c in 0..count {
         let at = w.at;
         if !actions::action_fits(b, z, q.n, at) {
             return Walk { no: 9, at: at };
@@ -52,7 +51,6 @@ fn walk_state(b: &[i32], z: Sizes, q: Limits, p: usize, start: Walk) -> Walk
             no: lower(w.no, no),
             at: at + 1 + r,
         };
-        c = c + 1;
     }
     w
 }
@@ -68,8 +66,7 @@ fn walk_lines(b: &[i32], z: Sizes, most: usize) -> u32
         no: 0,
         at: z.columns,
     };
-    let mut p: usize = 0;
-    while p < s {
+    for p in 0..s {
         t = book::stage_for(b, z, t, p);
         let q = Limits {
             n: t.n,
@@ -80,7 +77,6 @@ fn walk_lines(b: &[i32], z: Sizes, most: usize) -> u32
         if w.no == 9 {
             return 9;
         }
-        p = p + 1;
     }
     let at = w.at;
     let end = z.columns + z.l;

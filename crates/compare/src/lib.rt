@@ -9,12 +9,10 @@ pub fn first_difference(a: &[u8], at: usize, b: &[u8], n: usize) -> usize
     requires { (at + n ≤ length a.now) × (n ≤ length b.now) }
     ensures { (result ≡ first_difference (take n (drop at a.now)) (take n b.now)) × (result ≤ n) }
 {
-    let mut i: usize = 0;
-    while i < n {
+    for i in 0..n {
         if a[at + i] != b[i] {
             return i;
         }
-        i = i + 1;
     }
     n
 }

@@ -28,12 +28,10 @@ fn expect(b: &[i32], a: Lines, p: usize, c: usize, v: &[i64; 64], start: i64) ->
 {
     let r = a.r;
     let mut acc = start;
-    let mut i: usize = 0;
-    while i < r {
+    for i in 0..r {
         let next = lines::next(b, a, p, c, i);
         let w = lines::weight(b, a, p, c, i);
         acc = mul_add(acc, w, v[next]);
-        i = i + 1;
     }
     acc
 }

@@ -22,12 +22,10 @@ fn first_free(mask: u8, from: usize, n: usize) -> usize
     requires { n ≤ 8 }
     ensures { result ≡ first_of (free mask (up_from from (n - from))) }
 {
-    let mut c = from;
-    while c < n {
+    for c in from..n {
         if !sets::has8(mask, c as u8) {
             return c;
         }
-        c = c + 1;
     }
     255
 }
@@ -55,9 +53,7 @@ fn raise_of(b: &[i32], z: Sizes, off: &[u8; 64], plan: &[u8]) -> Raise
     ensures { RaiseIs b.now plan.now result }
 {
     let s = z.s;
-    let mut p = s;
-    while 0 < p {
-        p = p - 1;
+    for p in (0..s).rev() {
         let c = higher_at(b, z, off, plan, p);
         if c != 255 {
             return Raise {
@@ -114,13 +110,11 @@ fn fill(
 {
     let s = z.s;
     let mut known = set;
-    let mut p = from;
-    while p < s {
+    for p in from..s {
         reach[p] = known;
         let c = lowest_byte(b, z, off, p, known);
         plan[p] = c as u8;
         known = onward(b, z, x, p, c, known);
-        p = p + 1;
     }
 }
 
@@ -171,12 +165,10 @@ fn count_free(mask: u8, n: usize) -> usize
     ensures { result ≡ length (free mask (up_from 0 n)) }
 {
     let mut found: usize = 0;
-    let mut c: usize = 0;
-    while c < n {
+    for c in 0..n {
         if !sets::has8(mask, c as u8) {
             found = found + 1;
         }
-        c = c + 1;
     }
     found
 }
@@ -202,13 +194,11 @@ pub fn few_at_sight(b: &[i32], z: Sizes, off: &[u8; 64], most: usize) -> bool
 {
     let s = z.s;
     let mut product: usize = 1;
-    let mut p: usize = 0;
-    while p < s {
+    for p in 0..s {
         product = times(b, z, off, p, product);
         if most < product {
             return false;
         }
-        p = p + 1;
     }
     true
 }

@@ -28,13 +28,11 @@ fn avoids(b: &[i32], a: Lines, p: usize, c: usize, dead: u64) -> bool
     ensures { result ≡ avoids dead (action b.now p c).transitions }
 {
     let r = a.r;
-    let mut i: usize = 0;
-    while i < r {
+    for i in 0..r {
         let q = lines::next(b, a, p, c, i);
         if sets::has64(dead, q as u64) {
             return false;
         }
-        i = i + 1;
     }
     true
 }
@@ -61,14 +59,12 @@ fn barred_at(b: &[i32], z: Sizes, x: &[usize; 192], p: usize, dead: u64) -> u8
     let n = index::count(b, z, p);
     let mut j = x[p];
     let mut mask: u8 = 0;
-    let mut c: usize = 0;
-    while c < n {
+    for c in 0..n {
         let a = lines::of_line(b, z, x, p, c, j);
         if !goes_on(b, a, p, c, dead) {
             mask = sets::with8(mask, c as u8);
         }
         j = index::line_after(b, z, p, c, j);
-        c = c + 1;
     }
     mask
 }
@@ -78,12 +74,10 @@ fn none_left(mask: u8, n: usize) -> bool
     requires { n ≤ 8 }
     ensures { result ≡ is_empty (free mask (up_from 0 n)) }
 {
-    let mut c: usize = 0;
-    while c < n {
+    for c in 0..n {
         if !sets::has8(mask, c as u8) {
             return false;
         }
-        c = c + 1;
     }
     true
 }
@@ -101,9 +95,7 @@ pub fn find_barred(b: &[i32], z: Sizes, x: &[usize; 192]) -> Barred
 {
     let mut off = no_sets();
     let mut dead: u64 = 0;
-    let mut p = z.s;
-    while 0 < p {
-        p = p - 1;
+    for p in (0..z.s).rev() {
         let mask = barred_at(b, z, x, p, dead);
         off[p] = mask;
         let n = index::count(b, z, p);

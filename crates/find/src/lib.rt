@@ -28,12 +28,10 @@ fn place_in(plans: &[u8], n: usize, plan: &[u8]) -> usize
     ensures { result ≡ place_in (parts plans.now (length plan.now) 0 n) plan.now }
 {
     let s = plan.len();
-    let mut i: usize = 0;
-    while i < n {
+    for i in 0..n {
         if bytes_io::same_bytes(plans, i * s, plan, s) {
             return i;
         }
-        i = i + 1;
     }
     n
 }

@@ -30,10 +30,8 @@ pub fn action_line(b: &[i32], z: Sizes, p: usize, line: usize, c: usize) -> usiz
     ensures { result ≡ action_line b.now p c }
 {
     let mut j = line;
-    let mut d: usize = 0;
-    while d < c {
+    for d in 0..c {
         j = line_after(b, z, p, d, j);
-        d = d + 1;
     }
     j
 }
@@ -61,15 +59,13 @@ pub fn fill_index(b: &[i32], z: Sizes, x: &mut [usize; 192])
     let s = z.s;
     let mut t = Stage { n: 0, end: 1 };
     let mut at: usize = 0;
-    let mut p: usize = 0;
-    while p < s {
+    for p in 0..s {
         t = book::stage_for(b, z, t, p);
         x[p] = at;
         x[64 + p] = t.end;
         x[128 + p] = h - t.n;
         let n = count(b, z, p);
         at = action_line(b, z, p, at, n);
-        p = p + 1;
     }
 }
 

@@ -39,12 +39,10 @@ fn above_kept(
     ensures { result ≡ first_where (keeps_limit b.now (limit_of marks.now m)) (parts plans.now (state_count b.now) 0 n) }
 {
     let s = z.s;
-    let mut i: usize = 0;
-    while i < n {
+    for i in 0..n {
         if marks::most(b, z, x, marks, plans, i * s) <= m {
             return i;
         }
-        i = i + 1;
     }
     n
 }

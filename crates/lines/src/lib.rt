@@ -62,13 +62,11 @@ fn find_walking(b: &[i32], z: Sizes, p: usize, from: usize, c: usize) -> Found
     let n = index::count(b, z, p);
     let mut at = from;
     let mut k = from;
-    let mut d: usize = 0;
-    while d < n {
+    for d in 0..n {
         if d == c {
             at = k;
         }
         k = word_after(b, z, p, d, k);
-        d = d + 1;
     }
     Found { at: at, after: k }
 }

@@ -28,10 +28,8 @@ fn action_total(b: &[i32], z: Sizes) -> usize
 {
     let s = z.s;
     let mut n: usize = 0;
-    let mut p: usize = 0;
-    while p < s {
+    for p in 0..s {
         n = n + index::count(b, z, p);
-        p = p + 1;
     }
     n
 }
@@ -41,12 +39,10 @@ fn all_marks(marks: &[u8]) -> bool
     ensures { result ≡ every is_mark marks.now }
 {
     let n = marks.len();
-    let mut i: usize = 0;
-    while i < n {
+    for i in 0..n {
         if HIGHEST_MARK < marks[i] {
             return false;
         }
-        i = i + 1;
     }
     true
 }
@@ -73,14 +69,12 @@ fn most_next(b: &[i32], a: Lines, p: usize, c: usize, v: &[usize; 64]) -> usize
 {
     let r = a.r;
     let mut most: usize = 0;
-    let mut i: usize = 0;
-    while i < r {
+    for i in 0..r {
         let next = lines::next(b, a, p, c, i);
         let y = v[next];
         if most < y {
             most = y;
         }
-        i = i + 1;
     }
     most
 }
@@ -98,9 +92,7 @@ pub fn most(b: &[i32], z: Sizes, x: &[usize; 192], marks: &[u8], plans: &[u8], a
 {
     let mut v = zeros();
     let mut first = marks.len();
-    let mut p = z.s;
-    while 0 < p {
-        p = p - 1;
+    for p in (0..z.s).rev() {
         let n = index::count(b, z, p);
         first = first - n;
         let c = bytes_io::wide(plans[at + p]) as usize;

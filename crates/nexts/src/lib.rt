@@ -20,11 +20,9 @@ pub fn next_set(b: &[i32], a: Lines, p: usize, c: usize) -> u64
 {
     let r = a.r;
     let mut set: u64 = 0;
-    let mut i: usize = 0;
-    while i < r {
+    for i in 0..r {
         let q = lines::next(b, a, p, c, i);
         set = sets::with64(set, q as u64);
-        i = i + 1;
     }
     set
 }
@@ -36,15 +34,13 @@ fn fill_state(b: &[i32], z: Sizes, x: &[usize; 192], p: usize, off: u8, t: &mut 
 {
     let n = index::count(b, z, p);
     let mut j = x[p];
-    let mut c: usize = 0;
-    while c < n {
+    for c in 0..n {
         if !sets::has8(off, c as u8) {
             let a = lines::of_line(b, z, x, p, c, j);
             let y = next_set(b, a, p, c);
             t[8 * p + c] = y;
         }
         j = index::line_after(b, z, p, c, j);
-        c = c + 1;
     }
 }
 
@@ -60,10 +56,8 @@ pub fn fill_sets(b: &[i32], z: Sizes, x: &[usize; 192], off: &[u8; 64], t: &mut 
     ensures { NextsOf b.now t.new }
 {
     let s = z.s;
-    let mut p: usize = 0;
-    while p < s {
+    for p in 0..s {
         let mask = off[p];
         fill_state(b, z, x, p, mask, t);
-        p = p + 1;
     }
 }

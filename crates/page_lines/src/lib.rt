@@ -63,12 +63,10 @@ pub fn put_lines(out: &mut [u8], at: usize, l: Listing) -> usize
 {
     let plans = l.plans;
     let mut p = at;
-    let mut j: usize = 0;
-    while j < l.n {
+    for j in 0..l.n {
         let from = j * l.s;
         let to = from + l.s;
         p = text::put_line(out, p, j as u64 + 1, l.costs[j], &plans[from..to]);
-        j = j + 1;
     }
     p
 }

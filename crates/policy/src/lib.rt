@@ -59,8 +59,7 @@ pub fn judge(b: &[i32], z: Sizes, plan: &[u8]) -> Judged
     let mut t = Stage { n: 0, end: 1 };
     let mut at = z.columns;
     let mut sum: i64 = 0;
-    let mut p: usize = 0;
-    while p < s {
+    for p in 0..s {
         t = book::stage_for(b, z, t, p);
         let c = plan[p] as usize;
         let f = lines::find(b, z, t, p, at, c);
@@ -76,7 +75,6 @@ pub fn judge(b: &[i32], z: Sizes, plan: &[u8]) -> Judged
             reach::spread_lines(b, a, p, c, y, &mut w);
         }
         at = f.after;
-        p = p + 1;
     }
     Judged {
         is: true,

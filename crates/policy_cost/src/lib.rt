@@ -35,9 +35,7 @@ pub fn cost(b: &[i32], z: Sizes, x: &[usize; 192], plan: &[u8]) -> i64
     ensures { result ≡ policy_cost b.now plan.now }
 {
     let mut v = zeros();
-    let mut p = z.s;
-    while 0 < p {
-        p = p - 1;
+    for p in (0..z.s).rev() {
         let c = plan[p] as usize;
         if c != 255 {
             let y = state_cost(b, z, x, p, c, &v);

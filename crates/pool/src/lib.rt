@@ -36,10 +36,8 @@ fn first_order() -> [u8; 64]
     ensures { Slots result }
 {
     let mut order = zeros();
-    let mut i: usize = 0;
-    while i < 64 {
+    for i in 0..64 {
         order[i] = i as u8;
-        i = i + 1;
     }
     order
 }
@@ -144,10 +142,8 @@ pub fn write_row(plans: &mut [u8; 4096], j: usize, s: usize, bytes: &[u8; 64])
     ensures { plans.new ≡ paste plans.old (j * 64) bytes.now s }
 {
     let base = j * 64;
-    let mut i: usize = 0;
-    while i < s {
+    for i in 0..s {
         plans[base + i] = bytes[i];
-        i = i + 1;
     }
 }
 
@@ -172,10 +168,8 @@ pub fn move_back(order: &mut [u8; 64], n: usize)
 {
     let slot = order[0];
     let last = n - 1;
-    let mut t: usize = 0;
-    while t < last {
+    for t in 0..last {
         order[t] = order[t + 1];
-        t = t + 1;
     }
     order[last] = slot;
 }
@@ -210,10 +204,8 @@ pub fn read_row(plans: &[u8; 4096], j: usize, s: usize, out: &mut [u8])
     ensures { out.new ≡ row s plans.now j }
 {
     let base = j * 64;
-    let mut i: usize = 0;
-    while i < s {
+    for i in 0..s {
         out[i] = plans[base + i];
-        i = i + 1;
     }
 }
 

@@ -26,12 +26,10 @@ pub fn spread_lines(b: &[i32], a: Lines, p: usize, c: usize, y: usize, w: &mut [
     ensures { Holds w.new (spread y (action b.now p c).transitions (weight_at w.old)) }
 {
     let r = a.r;
-    let mut i: usize = 0;
-    while i < r {
+    for i in 0..r {
         let q = lines::next(b, a, p, c, i);
         let weight = lines::weight(b, a, p, c, i);
         w[q] = w[q] + y * weight;
-        i = i + 1;
     }
 }
 
@@ -59,13 +57,11 @@ pub fn reach_weights(b: &[i32], z: Sizes, x: &[usize; 192], plan: &[u8], w: &mut
 {
     let s = z.s;
     first_weights(w);
-    let mut p: usize = 0;
-    while p < s {
+    for p in 0..s {
         let c = plan[p] as usize;
         if c != 255 {
             let y = w[p];
             spread_action(b, z, x, p, c, y, w);
         }
-        p = p + 1;
     }
 }

@@ -113,10 +113,8 @@ impl Desk {
         ensures { result ≡ free self rider rank }
     {
         let mut others: u8 = 0;
-        let mut i: usize = 0;
-        while i < RIDERS {
+        for i in 0..RIDERS {
             others = others | differs(self.held[i], self.committed[i], rank, i as u8 ^ rider);
-            i = i + 1;
         }
         others == 0
     }

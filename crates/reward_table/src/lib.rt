@@ -83,10 +83,8 @@ fn weigh(t: &[i32], at: usize, r: usize) -> i64
     ensures { result ≡ sum_z r (λ i. word t.now (at + i)) }
 {
     let mut sum: i64 = 0;
-    let mut i: usize = 0;
-    while i < r {
+    for i in 0..r {
         sum = add(sum, book::word_at(t, at + i));
-        i = i + 1;
     }
     sum
 }
@@ -130,13 +128,11 @@ pub fn walk_state(t: &[i32], z: Table, s: usize, start: usize) -> Walk
 {
     let count = book::size_at(t, 5 + s);
     let mut at = start;
-    let mut c: usize = 0;
-    while c < count {
+    for c in 0..count {
         if !entry_given(t, z, at) {
             return Walk { ok: false, at: 0 };
         }
         at = at + 1 + book::size_at(t, z.columns + at);
-        c = c + 1;
     }
     Walk { ok: true, at: at }
 }
@@ -147,14 +143,12 @@ pub fn walk_to(t: &[i32], z: Table, end: usize) -> Walk
     ensures { WalkedTo t.now end result }
 {
     let mut at: usize = 0;
-    let mut s: usize = 0;
-    while s < end {
+    for s in 0..end {
         let w = walk_state(t, z, s, at);
         if !w.ok {
             return Walk { ok: false, at: 0 };
         }
         at = w.at;
-        s = s + 1;
     }
     Walk { ok: true, at: at }
 }

@@ -44,10 +44,8 @@ pub fn best_action(q: &[i64; 512], p: usize, n: usize, mask: u8) -> usize
     ensures { result ≡ best_of (row_of q.now p) (free mask (up_from 0 n)) }
 {
     let mut best: usize = 255;
-    let mut c: usize = 0;
-    while c < n {
+    for c in 0..n {
         best = best_of_two(q, p, best, c, mask);
-        c = c + 1;
     }
     best
 }
@@ -68,15 +66,13 @@ fn fill_row(
     let n = index::count(b, z, p);
     let unit = costs::unit(b, z, x, p);
     let mut j = x[p];
-    let mut c: usize = 0;
-    while c < n {
+    for c in 0..n {
         if !sets::has8(off, c as u8) {
             let a = lines::of_line(b, z, x, p, c, j);
             let y = costs::action_cost(b, a, p, c, unit, v);
             q[8 * p + c] = y;
         }
         j = index::line_after(b, z, p, c, j);
-        c = c + 1;
     }
 }
 
@@ -114,9 +110,7 @@ pub fn fill_table(
     requires { Indexed b.now z x.now × BarredOf b.now off.now × (length q.old ≡ 512) × (length v.old ≡ 64) }
     ensures { TableOf b.now q.new v.new }
 {
-    let mut p = z.s;
-    while 0 < p {
-        p = p - 1;
+    for p in (0..z.s).rev() {
         let mask = off[p];
         fill_row(b, z, x, p, mask, q, v);
         let n = index::count(b, z, p);

@@ -62,10 +62,8 @@ pub fn copy(t: &[i32], from: usize, count: usize, out: &mut [i32], at: usize)
     requires { (from + count ≤ length t.now) × (at + count ≤ length out.old) }
     ensures { out.new ≡ written out.old at count (take count (drop from t.now)) }
 {
-    let mut i: usize = 0;
-    while i < count {
+    for i in 0..count {
         out[at + i] = t[from + i];
-        i = i + 1;
     }
 }
 
@@ -74,10 +72,8 @@ fn again(out: &mut [i32], from: usize, count: usize, at: usize)
     requires { (from + count ≤ at) × (at + count ≤ length out.old) }
     ensures { out.new ≡ written out.old at count (take count (drop from out.old)) }
 {
-    let mut i: usize = 0;
-    while i < count {
+    for i in 0..count {
         out[at + i] = out[from + i];
-        i = i + 1;
     }
 }
 
@@ -87,10 +83,8 @@ fn repeat(out: &mut [i32], from: usize, count: usize, m: usize)
     ensures { out.new ≡ written out.old (from + count) (m * count) (repeated m (take count (drop from out.old))) }
 {
     let at = from + count;
-    let mut k: usize = 0;
-    while k < m {
+    for k in 0..m {
         again(out, from, count, at + k * count);
-        k = k + 1;
     }
 }
 
@@ -99,10 +93,8 @@ fn fill(out: &mut [i32], at: usize, count: usize, x: i32)
     requires { at + count ≤ length out.old }
     ensures { out.new ≡ written out.old at count (replicate count x) }
 {
-    let mut i: usize = 0;
-    while i < count {
+    for i in 0..count {
         out[at + i] = x;
-        i = i + 1;
     }
 }
 
@@ -136,11 +128,9 @@ fn turn_lines(t: &[i32], z: Table, j: usize, count: usize, out: &mut [i32], at: 
     let left = z.columns + j;
     let right = left + z.l;
     let mut rest: usize = 0;
-    let mut i: usize = 0;
-    while i < count {
+    for i in 0..count {
         out[at + i] = turn(book::word_at(t, right + i), rest);
         rest = rest_after(t, left + i, rest);
-        i = i + 1;
     }
 }
 
@@ -196,10 +186,8 @@ fn put_later_counts(t: &[i32], z: Table, out: &mut [i32], at: usize)
 {
     let m = z.h - 1;
     let n = z.n;
-    let mut k: usize = 0;
-    while k < m {
+    for k in 0..m {
         copy(t, 5, n, out, at + k * n);
-        k = k + 1;
     }
 }
 

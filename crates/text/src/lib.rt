@@ -72,10 +72,8 @@ fn put_choices(out: &mut [u8], at: usize, plan: &[u8]) -> usize
     ensures { Appended out.old at (for_each choice_text plan.now) out.new result × (result ≤ at + 21 * length plan.now) }
 {
     let mut p = at;
-    let mut i: usize = 0;
-    while i < plan.len() {
+    for i in 0..plan.len() {
         p = put_choice(out, p, plan[i]);
-        i = i + 1;
     }
     p
 }

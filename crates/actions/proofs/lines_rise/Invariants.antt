@@ -21,6 +21,3 @@ invariant-loop-i l =
     × (all l.i (positive l.b (l.at + l.l)) ≡ true)
     × (l.sum ≡ sum_to l.i (λ (k : ℕ). nat_abs (word l.b (l.at + l.l + k))))
     × (l.sum ≤ l.i * 2147483648)
-
-abbrev pub decreases-loop-i : goal.decreases-loop-i
-decreases-loop-i l = l.r - l.i

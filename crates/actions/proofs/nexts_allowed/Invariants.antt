@@ -9,6 +9,3 @@ use Rattle.actions.proofs.nexts_allowed.Given as goal
 
 abbrev pub invariant-loop-i : goal.invariant-loop-i
 invariant-loop-i l = (l.i ≤ l.r) × (l.prev ≡ prev_at l.b l.at l.i) × (all l.i (next_allowed l.b l.at l.width) ≡ true)
-
-abbrev pub decreases-loop-i : goal.decreases-loop-i
-decreases-loop-i l = l.r - l.i

@@ -7,6 +7,3 @@ use Rattle.book.proofs.states.Given as goal
 
 abbrev pub invariant-loop-n : goal.invariant-loop-n
 invariant-loop-n l = (l.n ≤ l.h + 1) × (l.s ≡ first_state l.b l.n) × (l.s ≤ l.n * 2147483648)
-
-abbrev pub decreases-loop-n : goal.decreases-loop-n
-decreases-loop-n l = l.h + 1 - l.n

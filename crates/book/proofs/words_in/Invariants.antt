@@ -14,6 +14,3 @@ between b at lo hi i = inside lo hi (word b (at + i))
 
 abbrev pub invariant-loop-i : goal.invariant-loop-i
 invariant-loop-i l = (l.i ≤ l.n) × (all l.i (between l.b l.at l.lo l.hi) ≡ true)
-
-abbrev pub decreases-loop-i : goal.decreases-loop-i
-decreases-loop-i l = l.n - l.i

@@ -7,6 +7,3 @@ use Rattle.build.proofs.best_actions.Given as goal
 
 abbrev pub invariant-loop-p : goal.invariant-loop-p
 invariant-loop-p l = (state_count l.b ≤ 64) × (l.p ≤ state_count l.b) × Found l.b l.k l.p l.best
-
-abbrev pub decreases-loop-p : goal.decreases-loop-p
-decreases-loop-p l = l.s - l.p

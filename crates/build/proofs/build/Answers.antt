@@ -72,12 +72,6 @@ step-t-requires c =
       λ e. subst (Feasible c.args.b.now c.loop-s.s) (sym (is a)) (goes a e),
     )
 
-pub overflow_add-s : goal.overflow_add-s
-overflow_add-s c = omega (arith, c.loop-s.invariant.1.long)
-
-pub loop-s-smaller : goal.loop-s-smaller
-loop-s-smaller c = omega (arith, c.loop-s.invariant.1.long)
-
 pub loop-s-preserved : goal.loop-s-preserved
 loop-s-preserved c =
     let a = (goal.at.loop-s-preserved c).After-choice-a in (

@@ -8,6 +8,3 @@ use Rattle.build.proofs.build.Given as goal
 
 abbrev pub invariant-loop-s : goal.invariant-loop-s
 invariant-loop-s l = (l.s ≤ state_count l.b) × Pass l.b (chosen l.b l.plan l.r l.c) l.s l.reach l.out × (l.r ≤ l.s)
-
-abbrev pub decreases-loop-s : goal.decreases-loop-s
-decreases-loop-s l = state_count l.b - l.s

@@ -8,6 +8,3 @@ use Rattle.build.proofs.copy_before.Given as goal
 
 abbrev pub invariant-loop-i : goal.invariant-loop-i
 invariant-loop-i l = (l.i ≤ l.r) × (length l.out ≡ length l.initial.out) × (l.out ≡ take l.i l.plan ++ drop l.i l.initial.out)
-
-abbrev pub decreases-loop-i : goal.decreases-loop-i
-decreases-loop-i l = l.r - l.i

@@ -19,12 +19,6 @@ pass_state-reach-requires c =
     let s = l in
     (s.requires.0, s.requires.1, omega (arith, s.requires.2), s.requires.5 l.loop-s.s (omega arith), l.loop-s.invariant.1)
 
-pub overflow_add-s : goal.overflow_add-s
-overflow_add-s c =
-    let l = c in
-    let s = l in
-    omega (arith, s.requires.2, (accepted s.args.b.now s.requires.0).sizes.s_high)
-
 pub loop-s-preserved : goal.loop-s-preserved
 loop-s-preserved c = (omega arith, c.pass_state-reach.ensures)
 

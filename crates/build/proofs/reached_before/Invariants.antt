@@ -6,6 +6,3 @@ use Rattle.build.proofs.reached_before.Given as goal
 
 abbrev pub invariant-loop-s : goal.invariant-loop-s
 invariant-loop-s l = (l.s ≤ l.r) × Passed l.b l.plan l.s l.reach
-
-abbrev pub decreases-loop-s : goal.decreases-loop-s
-decreases-loop-s l = l.r - l.s

@@ -8,6 +8,3 @@ use Rattle.bytes_io.proofs.read_words.Given as goal
 
 abbrev pub invariant-loop-i : goal.invariant-loop-i
 invariant-loop-i l = Filling l.initial.out 0 l.n (words_of l.n (drop l.at l.r)) l.out l.i (words_of (l.n - l.i) (drop (l.at + 4 * l.i) l.r))
-
-abbrev pub decreases-loop-i : goal.decreases-loop-i
-decreases-loop-i l = l.n - l.i

@@ -7,6 +7,3 @@ use Rattle.bytes_io.proofs.write_bytes.Given as goal
 
 abbrev pub invariant-loop-i : goal.invariant-loop-i
 invariant-loop-i l = Filling l.initial.out l.at l.n (take l.n l.src) l.out l.i (take (l.n - l.i) (drop l.i l.src))
-
-abbrev pub decreases-loop-i : goal.decreases-loop-i
-decreases-loop-i l = l.n - l.i

@@ -8,6 +8,3 @@ use Rattle.check_book.proofs.walk_lines.Given as goal
 
 abbrev pub invariant-loop-p : goal.invariant-loop-p
 invariant-loop-p l = (l.p ≤ state_count l.b) × StageNear l.b l.p l.t × Progress l.b l.z l.most l.p 0 l.w
-
-abbrev pub decreases-loop-p : goal.decreases-loop-p
-decreases-loop-p l = l.s - l.p

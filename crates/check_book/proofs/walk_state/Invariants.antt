@@ -6,6 +6,3 @@ use Rattle.check_book.proofs.walk_state.Given as goal
 
 abbrev pub invariant-loop-c : goal.invariant-loop-c
 invariant-loop-c l = (l.c ≤ l.count) × Progress l.b l.z l.q.most l.p l.c l.w
-
-abbrev pub decreases-loop-c : goal.decreases-loop-c
-decreases-loop-c l = l.count - l.c

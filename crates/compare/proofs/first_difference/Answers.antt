@@ -42,22 +42,18 @@ module _ (s : goal.Start) where
         drop_differ 0 one other i (omega (arith, one_long)) (omega (arith, other_long)) (λ q. e (sym byte_one ∙ q ∙ byte_other))
 
 pub loop-i-init : goal.loop-i-init
-loop-i-init c =
-    (omega arith, sym (zero-add _))
+loop-i-init c = sym (zero-add _)
 
 pub returns-then-a-at : goal.returns-then-a-at
 returns-then-a-at c =
-    let l = c in
-    (omega (arith, l.loop-i.invariant.1, differ (goal.at.returns-then-a-at l).Start l.loop-i.i (omega arith) c.if-a-at.true), omega arith)
+    (omega (arith, c.loop-i.invariant, differ (goal.at.returns-then-a-at c).Start c.loop-i.i (omega arith) c.if-a-at.true), omega arith)
 
 pub loop-i-preserved : goal.loop-i-preserved
 loop-i-preserved c =
-    let l = c in
-    (omega arith, omega (arith, l.loop-i.invariant.1, equal (goal.at.loop-i-preserved l).Start l.loop-i.i (omega arith) c.if-a-at.false))
+    omega (arith, c.loop-i.invariant, equal (goal.at.loop-i-preserved c).Start c.loop-i.i (omega arith) c.if-a-at.false)
 
 pub returns : goal.returns
 returns c =
-    let l = c in
-    let s = (goal.at.returns l).Start in
-    let e : drop l.loop-i.i (one s) ≡ [] = drop_of_length-le (one s) {i = l.loop-i.i} (omega (arith, one_long s)) in
-    (omega (arith, l.loop-i.invariant.1, ap (λ (bs : List ℕ). first_difference bs (drop l.loop-i.i (other s))) e), omega arith)
+    let s = (goal.at.returns c).Start in
+    let e : drop c.loop-i.i (one s) ≡ [] = drop_of_length-le (one s) {i = c.loop-i.i} (omega (arith, one_long s)) in
+    (omega (arith, c.loop-i.invariant, ap (λ (bs : List ℕ). first_difference bs (drop c.loop-i.i (other s))) e), omega arith)

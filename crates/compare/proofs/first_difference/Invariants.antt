@@ -8,8 +8,4 @@ use Rattle.compare.proofs.first_difference.Given as goal
 
 abbrev pub invariant-loop-i : goal.invariant-loop-i
 invariant-loop-i l =
-    (l.i ≤ l.n)
-    × (first_difference (take l.n (drop l.at l.a)) (take l.n l.b) ≡ l.i + first_difference (drop l.i (take l.n (drop l.at l.a))) (drop l.i (take l.n l.b)))
-
-abbrev pub decreases-loop-i : goal.decreases-loop-i
-decreases-loop-i l = l.n - l.i
+    (first_difference (take l.n (drop l.at l.a)) (take l.n l.b) ≡ l.i + first_difference (drop l.i (take l.n (drop l.at l.a))) (drop l.i (take l.n l.b)))

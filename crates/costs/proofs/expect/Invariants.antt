@@ -13,6 +13,3 @@ abbrev pub invariant-loop-i : goal.invariant-loop-i
 invariant-loop-i l =
     (l.i ≤ l.r)
     × Summed (value_at l.v) (l.start +ℤ expected (value_at l.v) (action l.b l.p l.c).transitions) l.acc (drop l.i (action l.b l.p l.c).transitions)
-
-abbrev pub decreases-loop-i : goal.decreases-loop-i
-decreases-loop-i l = l.r - l.i

@@ -13,12 +13,6 @@ loop-c-init c = (omega arith, omega arith, omega arith)
 pub overflow_add-found : goal.overflow_add-found
 overflow_add-found c = let l = c in omega (arith, l.loop-c.invariant.1, l.loop-c.invariant.0, l.requires)
 
-pub overflow_add-c : goal.overflow_add-c
-overflow_add-c c = let l = c in omega (arith, l.loop-c.invariant.0, l.requires)
-
-pub loop-c-smaller : goal.loop-c-smaller
-loop-c-smaller c = omega (arith, c.loop-c-test.true)
-
 pub loop-c-preserved : goal.loop-c-preserved
 loop-c-preserved c =
     let mask = c.args.mask in

@@ -8,6 +8,3 @@ use Rattle.enumerate.proofs.count_free.Given as goal
 
 abbrev pub invariant-loop-c : goal.invariant-loop-c
 invariant-loop-c l = (l.c ≤ l.n) × (l.found ≤ l.c) × (length (free_from l.mask 0 l.n) ≡ l.found + length (free_from l.mask l.c l.n))
-
-abbrev pub decreases-loop-c : goal.decreases-loop-c
-decreases-loop-c l = l.n - l.c

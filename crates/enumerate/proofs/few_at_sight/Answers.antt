@@ -19,17 +19,6 @@ times-product-requires c =
     let s = l in
     (s.requires.0, s.requires.1, omega (arith, c.loop-p-test.true, s.requires.0.sizes.s_is), omega (arith, l.loop-p.invariant.1, s.requires.2))
 
-pub overflow_add-p : goal.overflow_add-p
-overflow_add-p c =
-    let t = c in
-    let s = t in
-    omega (arith, t.loop-p-test.true, s.requires.0.sizes.s_is, (accepted s.args.b.now s.requires.0.ok).sizes.s_high)
-
-pub loop-p-smaller : goal.loop-p-smaller
-loop-p-smaller c =
-    let t = c in
-    omega (arith, t.loop-p-test.true, t.requires.0.sizes.s_is)
-
 pub loop-p-preserved : goal.loop-p-preserved
 loop-p-preserved c =
     let u = c in

@@ -10,6 +10,3 @@ use Rattle.enumerate.proofs.few_at_sight.Given as goal
 abbrev pub invariant-loop-p : goal.invariant-loop-p
 invariant-loop-p l =
     (l.p ≤ state_count l.b) × (l.product ≤ l.most) × (ways (feasible l.b) (state_count l.b) 0 ≡ l.product * ways (feasible l.b) (state_count l.b - l.p) l.p)
-
-abbrev pub decreases-loop-p : goal.decreases-loop-p
-decreases-loop-p l = state_count l.b - l.p

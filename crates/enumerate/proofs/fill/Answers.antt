@@ -42,12 +42,6 @@ pub onward-known-requires : goal.onward-known-requires
 onward-known-requires c =
     (c.requires.0, omega arith, acts c.args.b.now c.loop-p.p c.loop-p.known c.lowest_byte-c.result c.lowest_byte-c.ensures)
 
-pub overflow_add-p : goal.overflow_add-p
-overflow_add-p c = omega (arith, (accepted c.args.b.now c.requires.0.checked.ok).sizes.s_high)
-
-pub loop-p-smaller : goal.loop-p-smaller
-loop-p-smaller c = omega arith
-
 pub loop-p-preserved : goal.loop-p-preserved
 loop-p-preserved c =
     let ws = c.args.b.now in

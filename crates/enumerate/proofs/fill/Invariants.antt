@@ -20,6 +20,3 @@ pub record Done (ws : Words) (from : ℕ) (bs : Policy) (reach₀ : List ℕ) (c
 
 abbrev pub invariant-loop-p : goal.invariant-loop-p
 invariant-loop-p l = Done l.b l.from l.initial.plan l.initial.reach l.plan l.reach l.known l.p
-
-abbrev pub decreases-loop-p : goal.decreases-loop-p
-decreases-loop-p l = state_count l.b - l.p

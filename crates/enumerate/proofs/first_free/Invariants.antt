@@ -7,6 +7,3 @@ use Rattle.enumerate.proofs.first_free.Given as goal
 
 abbrev pub invariant-loop-c : goal.invariant-loop-c
 invariant-loop-c l = free_from l.mask l.from l.n ≡ free_from l.mask l.c l.n
-
-abbrev pub decreases-loop-c : goal.decreases-loop-c
-decreases-loop-c l = l.n - l.c

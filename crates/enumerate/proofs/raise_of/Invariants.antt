@@ -14,6 +14,3 @@ NoneFrom ws bs p = (q : ℕ) → p ≤ q → q < state_count ws → higher_at ws
 
 abbrev pub invariant-loop-p : goal.invariant-loop-p
 invariant-loop-p l = (l.p ≤ state_count l.b) × NoneFrom l.b l.plan l.p
-
-abbrev pub decreases-loop-p : goal.decreases-loop-p
-decreases-loop-p l = l.p

@@ -10,6 +10,3 @@ use Rattle.feasible.proofs.avoids.Given as goal
 abbrev pub invariant-loop-i : goal.invariant-loop-i
 invariant-loop-i l =
     (l.i ≤ l.r) × (avoids l.dead (action l.b l.p l.c).transitions ≡ avoids l.dead (drop l.i (action l.b l.p l.c).transitions))
-
-abbrev pub decreases-loop-i : goal.decreases-loop-i
-decreases-loop-i l = l.r - l.i

@@ -9,6 +9,3 @@ use Rattle.feasible.proofs.barred_at.Given as goal
 abbrev pub invariant-loop-c : goal.invariant-loop-c
 invariant-loop-c l =
     (l.c ≤ l.n) × (l.n ≤ 8) × MaskTo l.b l.p l.dead l.c l.mask × (l.j ≡ action_line l.b l.p l.c)
-
-abbrev pub decreases-loop-c : goal.decreases-loop-c
-decreases-loop-c l = l.n - l.c

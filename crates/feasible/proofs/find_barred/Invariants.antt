@@ -7,6 +7,3 @@ use Rattle.feasible.proofs.find_barred.Given as goal
 
 abbrev pub invariant-loop-p : goal.invariant-loop-p
 invariant-loop-p l = (state_count l.b ≤ 64) × (l.p ≤ state_count l.b) × BarredFrom l.b l.p l.off l.dead
-
-abbrev pub decreases-loop-p : goal.decreases-loop-p
-decreases-loop-p l = l.p

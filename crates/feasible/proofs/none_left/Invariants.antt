@@ -8,6 +8,3 @@ use Rattle.feasible.proofs.none_left.Given as goal
 
 abbrev pub invariant-loop-c : goal.invariant-loop-c
 invariant-loop-c l = (l.c ≤ l.n) × ((d : ℕ) → d < l.c → has l.mask d ≡ true)
-
-abbrev pub decreases-loop-c : goal.decreases-loop-c
-decreases-loop-c l = l.n - l.c

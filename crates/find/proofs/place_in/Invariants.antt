@@ -8,6 +8,3 @@ use Rattle.find.proofs.place_in.Given as goal
 
 abbrev pub invariant-loop-i : goal.invariant-loop-i
 invariant-loop-i l = (l.i ≤ l.n) × (place_in (parts l.plans l.s 0 l.n) l.plan ≡ l.i + place_in (parts l.plans l.s l.i (l.n - l.i)) l.plan)
-
-abbrev pub decreases-loop-i : goal.decreases-loop-i
-decreases-loop-i l = l.n - l.i

@@ -7,6 +7,3 @@ use Rattle.index.proofs.action_line.Given as goal
 
 abbrev pub invariant-loop-d : goal.invariant-loop-d
 invariant-loop-d l = (l.d ≤ l.c) × (l.j ≡ action_line l.b l.p l.d)
-
-abbrev pub decreases-loop-d : goal.decreases-loop-d
-decreases-loop-d l = l.c - l.d

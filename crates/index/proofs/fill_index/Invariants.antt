@@ -10,6 +10,3 @@ use Rattle.index.proofs.fill_index.Given as goal
 abbrev pub invariant-loop-p : goal.invariant-loop-p
 invariant-loop-p l =
     (state_count l.b ≤ 64) × (l.p ≤ state_count l.b) × IndexTo l.b l.p l.x × StageNear l.b l.p l.t × (l.at ≡ state_line l.b l.p)
-
-abbrev pub decreases-loop-p : goal.decreases-loop-p
-decreases-loop-p l = l.s - l.p

@@ -13,6 +13,3 @@ invariant-loop-i l =
     (l.i ≤ l.n)
     × (first_where (keeps_limit l.b (limit_of l.marks l.m)) (parts l.plans (state_count l.b) 0 l.n)
     ≡ l.i + first_where (keeps_limit l.b (limit_of l.marks l.m)) (parts l.plans (state_count l.b) l.i (l.n - l.i)))
-
-abbrev pub decreases-loop-i : goal.decreases-loop-i
-decreases-loop-i l = l.n - l.i

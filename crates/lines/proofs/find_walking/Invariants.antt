@@ -8,6 +8,3 @@ use Rattle.lines.proofs.find_walking.Given as goal
 
 abbrev pub invariant-loop-d : goal.invariant-loop-d
 invariant-loop-d l = (l.d ≤ action_count l.b l.p) × (l.k ≡ word_of l.b l.p l.d) × (l.c < l.d → l.at ≡ word_of l.b l.p l.c)
-
-abbrev pub decreases-loop-d : goal.decreases-loop-d
-decreases-loop-d l = l.n - l.d

@@ -8,6 +8,3 @@ use Rattle.marks.proofs.action_total.Given as goal
 
 abbrev pub invariant-loop-p : goal.invariant-loop-p
 invariant-loop-p l = (state_count l.b ≤ 64) × (l.s ≡ state_count l.b) × (l.p ≤ l.s) × (l.n ≡ first_mark l.b l.p)
-
-abbrev pub decreases-loop-p : goal.decreases-loop-p
-decreases-loop-p l = l.s - l.p

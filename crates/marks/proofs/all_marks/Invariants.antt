@@ -14,6 +14,3 @@ marks_all bs = every is_mark bs
 
 abbrev pub invariant-loop-i : goal.invariant-loop-i
 invariant-loop-i l = (l.i ≤ l.n) × (marks_all l.marks ≡ marks_all (drop l.i l.marks))
-
-abbrev pub decreases-loop-i : goal.decreases-loop-i
-decreases-loop-i l = l.n - l.i

@@ -11,6 +11,3 @@ use Rattle.marks.proofs.most.Given as goal
 abbrev pub invariant-loop-p : goal.invariant-loop-p
 invariant-loop-p l =
     (state_count l.b ≤ 64) × (l.p ≤ state_count l.b) × (l.first ≡ first_mark l.b l.p) × MostTo l.b l.marks (take (state_count l.b) (drop l.at l.plans)) l.p l.v
-
-abbrev pub decreases-loop-p : goal.decreases-loop-p
-decreases-loop-p l = l.p

@@ -11,6 +11,3 @@ use Rattle.marks.proofs.most_next.Given as goal
 abbrev pub invariant-loop-i : goal.invariant-loop-i
 invariant-loop-i l =
     (l.i ≤ l.r) × (most_next (number_at l.v) (action l.b l.p l.c).transitions ≡ max l.most (most_next (number_at l.v) (drop l.i (action l.b l.p l.c).transitions)))
-
-abbrev pub decreases-loop-i : goal.decreases-loop-i
-decreases-loop-i l = l.r - l.i

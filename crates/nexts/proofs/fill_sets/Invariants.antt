@@ -7,6 +7,3 @@ use Rattle.nexts.proofs.fill_sets.Given as goal
 
 abbrev pub invariant-loop-p : goal.invariant-loop-p
 invariant-loop-p l = (l.p ≤ state_count l.b) × NextsTo l.b l.p 0 l.t
-
-abbrev pub decreases-loop-p : goal.decreases-loop-p
-decreases-loop-p l = l.s - l.p

@@ -9,6 +9,3 @@ use Rattle.nexts.proofs.fill_state.Given as goal
 abbrev pub invariant-loop-c : goal.invariant-loop-c
 invariant-loop-c l =
     (l.c ≤ l.n) × (l.p < 64) × (l.n ≤ 8) × NextsTo l.b l.p l.c l.t × (l.j ≡ action_line l.b l.p l.c)
-
-abbrev pub decreases-loop-c : goal.decreases-loop-c
-decreases-loop-c l = l.n - l.c

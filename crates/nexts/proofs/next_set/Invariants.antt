@@ -10,6 +10,3 @@ use Rattle.nexts.proofs.next_set.Given as goal
 abbrev pub invariant-loop-i : goal.invariant-loop-i
 invariant-loop-i l =
     (l.i ≤ l.r) × ToAdd (nexts (action l.b l.p l.c).transitions) (nexts (drop l.i (action l.b l.p l.c).transitions)) l.set
-
-abbrev pub decreases-loop-i : goal.decreases-loop-i
-decreases-loop-i l = l.r - l.i

@@ -17,6 +17,3 @@ use Rattle.page_lines.proofs.put_lines.Given as goal
 abbrev pub invariant-loop-j : goal.invariant-loop-j
 invariant-loop-j l =
     (l.j ≤ l.l.n) × (length l.out ≡ length l.initial.out) × (l.p ≤ l.at + 1387 * l.j) × Appended l.initial.out l.at (array_lines l.l l.j) l.out l.p
-
-abbrev pub decreases-loop-j : goal.decreases-loop-j
-decreases-loop-j l = l.l.n - l.j

@@ -6,6 +6,3 @@ use Rattle.policy.proofs.judge.Given as goal
 
 abbrev pub invariant-loop-p : goal.invariant-loop-p
 invariant-loop-p l = Walk l.b l.plan l.p l.t l.at l.w l.sum
-
-abbrev pub decreases-loop-p : goal.decreases-loop-p
-decreases-loop-p l = l.s - l.p

@@ -9,6 +9,3 @@ use Rattle.policy_cost.proofs.cost.Given as goal
 
 abbrev pub invariant-loop-p : goal.invariant-loop-p
 invariant-loop-p l = (l.p ≤ state_count l.b) × (length l.v ≡ 64) × Has l.b l.plan l.p l.v
-
-abbrev pub decreases-loop-p : goal.decreases-loop-p
-decreases-loop-p l = l.p

@@ -9,6 +9,3 @@ use Rattle.pool.proofs.first_order.Given as goal
 
 abbrev pub invariant-loop-i : goal.invariant-loop-i
 invariant-loop-i l = (l.i ≤ 64) × (length l.initial.order ≡ 64) × (l.order ≡ take l.i (up_from 0 64) ++ drop l.i l.initial.order)
-
-abbrev pub decreases-loop-i : goal.decreases-loop-i
-decreases-loop-i l = 64 - l.i

@@ -7,6 +7,3 @@ use Rattle.pool.proofs.move_back.Given as goal
 
 abbrev pub invariant-loop-t : goal.invariant-loop-t
 invariant-loop-t l = (l.t ≤ l.last) × (l.order ≡ moved_to l.initial.order l.t)
-
-abbrev pub decreases-loop-t : goal.decreases-loop-t
-decreases-loop-t l = l.last - l.t

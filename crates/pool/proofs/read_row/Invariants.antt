@@ -9,6 +9,3 @@ use Rattle.pool.proofs.read_row.Given as goal
 
 abbrev pub invariant-loop-i : goal.invariant-loop-i
 invariant-loop-i l = (l.i ≤ l.s) × (length l.out ≡ length l.initial.out) × (l.out ≡ take l.i (row l.s l.plans l.j) ++ drop l.i l.initial.out)
-
-abbrev pub decreases-loop-i : goal.decreases-loop-i
-decreases-loop-i l = l.s - l.i

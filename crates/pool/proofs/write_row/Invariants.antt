@@ -7,6 +7,3 @@ use Rattle.pool.proofs.write_row.Given as goal
 
 abbrev pub invariant-loop-i : goal.invariant-loop-i
 invariant-loop-i l = (l.i ≤ l.s) × (l.plans ≡ paste l.initial.plans (l.j * 64) l.bytes l.i)
-
-abbrev pub decreases-loop-i : goal.decreases-loop-i
-decreases-loop-i l = l.s - l.i

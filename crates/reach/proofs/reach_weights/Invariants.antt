@@ -9,6 +9,3 @@ use Rattle.reach.proofs.reach_weights.Given as goal
 
 abbrev pub invariant-loop-p : goal.invariant-loop-p
 invariant-loop-p l = (state_count l.b ≤ 64) × (l.p ≤ state_count l.b) × (length l.plan ≡ state_count l.b) × Passed l.b l.plan l.p l.w
-
-abbrev pub decreases-loop-p : goal.decreases-loop-p
-decreases-loop-p l = l.s - l.p

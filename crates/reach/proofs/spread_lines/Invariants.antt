@@ -11,6 +11,3 @@ use Rattle.reach.proofs.spread_lines.Given as goal
 abbrev pub invariant-loop-i : goal.invariant-loop-i
 invariant-loop-i l =
     (l.i ≤ l.r) × ToSpread l.y (spread l.y (action l.b l.p l.c).transitions (weight_at l.initial.w)) (drop l.i (action l.b l.p l.c).transitions) l.w
-
-abbrev pub decreases-loop-i : goal.decreases-loop-i
-decreases-loop-i l = l.r - l.i

@@ -11,6 +11,3 @@ use Rattle.reward_table.proofs.walk_state.Given as goal
 abbrev pub invariant-loop-c : goal.invariant-loop-c
 invariant-loop-c l =
     (l.c ≤ l.count) × (l.at ≡ table_action_line l.t l.s l.c) × (l.at ≤ 2048) × (all l.c (λ (k : ℕ). entry_given l.t (table_action_line l.t l.s k)) ≡ true)
-
-abbrev pub decreases-loop-c : goal.decreases-loop-c
-decreases-loop-c l = l.count - l.c

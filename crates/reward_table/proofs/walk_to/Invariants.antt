@@ -10,6 +10,3 @@ use Rattle.reward_table.proofs.walk_to.Given as goal
 
 abbrev pub invariant-loop-s : goal.invariant-loop-s
 invariant-loop-s l = (l.s ≤ l.end) × (l.at ≡ table_state_line l.t l.s) × (l.at ≤ 2048) × (all l.s (state_given l.t) ≡ true)
-
-abbrev pub decreases-loop-s : goal.decreases-loop-s
-decreases-loop-s l = l.end - l.s

@@ -10,6 +10,3 @@ use Rattle.reward_table.proofs.weigh.Given as goal
 abbrev pub invariant-loop-i : goal.invariant-loop-i
 invariant-loop-i l =
     (l.i ≤ l.r) × (l.sum ≡ sum_z l.i (λ (k : ℕ). word l.t (l.at + k))) × (nat_abs (l.sum) ≤ l.i * 2147483648)
-
-abbrev pub decreases-loop-i : goal.decreases-loop-i
-decreases-loop-i l = l.r - l.i

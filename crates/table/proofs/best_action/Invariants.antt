@@ -14,6 +14,3 @@ invariant-loop-c l =
     (l.c ≤ l.n)
     × Chosen l.best
     × (best_of (row_of l.q l.p) (free l.mask (up_from 0 l.n)) ≡ better (row_of l.q l.p) l.best (best_of (row_of l.q l.p) (rest l.mask l.c l.n)))
-
-abbrev pub decreases-loop-c : goal.decreases-loop-c
-decreases-loop-c l = l.n - l.c

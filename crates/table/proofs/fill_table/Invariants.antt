@@ -7,6 +7,3 @@ use Rattle.table.proofs.fill_table.Given as goal
 
 abbrev pub invariant-loop-p : goal.invariant-loop-p
 invariant-loop-p l = (state_count l.b ≤ 64) × (l.p ≤ state_count l.b) × TableFrom l.b l.p l.q l.v
-
-abbrev pub decreases-loop-p : goal.decreases-loop-p
-decreases-loop-p l = l.p

@@ -11,6 +11,3 @@ abbrev pub invariant-loop-i : goal.invariant-loop-i
 invariant-loop-i l =
     Filling l.initial.out l.at l.count (take l.count (drop l.from l.initial.out)) l.out l.i (take (l.count - l.i) (drop (l.from + l.i) l.initial.out))
     × ((j : ℕ) → j < l.at → get_or l.out j (pos 0) ≡ get_or l.initial.out j (pos 0))
-
-abbrev pub decreases-loop-i : goal.decreases-loop-i
-decreases-loop-i l = l.count - l.i

@@ -7,6 +7,3 @@ use Rattle.table_book.proofs.copy.Given as goal
 
 abbrev pub invariant-loop-i : goal.invariant-loop-i
 invariant-loop-i l = Filling l.initial.out l.at l.count (take l.count (drop l.from l.t)) l.out l.i (take (l.count - l.i) (drop (l.from + l.i) l.t))
-
-abbrev pub decreases-loop-i : goal.decreases-loop-i
-decreases-loop-i l = l.count - l.i

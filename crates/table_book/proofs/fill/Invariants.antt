@@ -7,6 +7,3 @@ use Rattle.table_book.proofs.fill.Given as goal
 
 abbrev pub invariant-loop-i : goal.invariant-loop-i
 invariant-loop-i l = Filling l.initial.out l.at l.count (replicate l.count l.x) l.out l.i (replicate (l.count - l.i) l.x)
-
-abbrev pub decreases-loop-i : goal.decreases-loop-i
-decreases-loop-i l = l.count - l.i

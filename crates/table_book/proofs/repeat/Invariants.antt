@@ -7,6 +7,3 @@ use Rattle.table_book.proofs.repeat.Given as goal
 
 abbrev pub invariant-loop-k : goal.invariant-loop-k
 invariant-loop-k l = Repeating l.initial.out l.at l.m l.count (take l.count (drop l.from l.initial.out)) l.out l.k
-
-abbrev pub decreases-loop-k : goal.decreases-loop-k
-decreases-loop-k l = l.m - l.k

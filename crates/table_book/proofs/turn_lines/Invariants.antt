@@ -8,6 +8,3 @@ use Rattle.table_book.proofs.turn_lines.Given as goal
 abbrev pub invariant-loop-i : goal.invariant-loop-i
 invariant-loop-i l =
     Filling l.initial.out l.at l.count (turned_from l.t 0 l.j l.count) l.out l.i (turned_from l.t l.rest (l.j + l.i) (l.count - l.i)) × Turnable l.t l.rest (l.j + l.i) (l.count - l.i)
-
-abbrev pub decreases-loop-i : goal.decreases-loop-i
-decreases-loop-i l = l.count - l.i

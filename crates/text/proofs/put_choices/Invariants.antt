@@ -14,6 +14,3 @@ use Rattle.text.proofs.put_choices.Given as goal
 abbrev pub invariant-loop-i : goal.invariant-loop-i
 invariant-loop-i l =
     (l.i ≤ length l.plan) × (length l.out ≡ length l.initial.out) × (l.p ≤ l.at + 21 * l.i) × Appended l.initial.out l.at (for_each choice_text (take l.i l.plan)) l.out l.p
-
-abbrev pub decreases-loop-i : goal.decreases-loop-i
-decreases-loop-i l = length l.plan - l.i

@@ -9,6 +9,3 @@ use Rattle.reservation.proofs.Desk.is_free.Given as goal
 
 abbrev pub invariant-loop-i : goal.invariant-loop-i
 invariant-loop-i l = (l.i ≤ riders) × (eqb l.others 0 ≡ all l.i (leaves l.self l.rider l.rank))
-
-abbrev pub decreases-loop-i : goal.decreases-loop-i
-decreases-loop-i l = riders - l.i

@@ -1,9 +1,0 @@
--- The cases that are left are counted down.
--- Assumes nothing.
-use Rattle.cases.proofs.main.Given as goal
-
-abbrev pub invariant-loop-left : goal.invariant-loop-left
-invariant-loop-left l = Unit {0}
-
-abbrev pub decreases-loop-left : goal.decreases-loop-left
-decreases-loop-left l = l.left
