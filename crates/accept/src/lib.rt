@@ -1,59 +1,48 @@
 // Accepting a record: the questions 19, 1 to 14, 28, 20 and 21 for any bytes; and showing one policy of a record.
 #![tactic(auto)]
 
-ghost use Rattle.std.specs.Prelude.{◌≡◌};
+ghost use Rattle.std.specs.Prelude.{◌≡◌, IfOk};
 ghost use Rattle.model.specs.Questions.{first_no};
 ghost use Rattle.model.specs.Record.{carried_book, head_questions, accept_number};
 ghost use Rattle.model.specs.Calls.{accept_states, accept_count, shown};
+ghost use Rattle.refusal.specs.Refusal.{number_in};
 
-// The number of the first question that is answered no, or 0; how many states the book has and how many policies are listed, both 0 where the record is refused.
+use refusal::Refusal;
+
+// Of a record that is accepted: how many states its book has and how many policies are listed.
 #[derive(Clone, Copy)]
 pub struct Accepted {
-    pub no: u32,
     pub s: usize,
     pub k: usize,
 }
 
 // All that is asked after 19, of the carried book b.
-fn accept_book(r: &[u8], b: &[i32]) -> Accepted
+fn accept_book(r: &[u8], b: &[i32]) -> Result<Accepted, Refusal>
     requires { (first_no head_questions r.now ≡ 0) × (b.now ≡ carried_book r.now) }
-    ensures { (result.no ≡ accept_number r.now) × (result.s ≡ accept_states r.now) × (result.k ≡ accept_count r.now) }
+    ensures number { number_in result ≡ accept_number r.now }
+    ensures states { IfOk result (λ a. a.s ≡ accept_states r.now) }
+    ensures count { IfOk result (λ a. a.k ≡ accept_count r.now) }
 {
     let k = record::carried_k(r);
-    let no = asked::counted_number(b, k);
-    if no != 0 {
-        return Accepted { no: no, s: 0, k: 0 };
-    }
+    asked::counted_number(b, k)?;
     let z = book::read_sizes(b);
     let mut costs = listing::no_costs();
     let mut plans = listing::no_plans();
     let n = listing::fill(b, k, &mut costs, &mut plans);
     if n == 0 {
-        return Accepted { no: 28, s: 0, k: 0 };
+        return Err(Refusal::NoPlan);
     }
-    let last = record::tail_number(r, n, z.s, &costs, &plans);
-    if last != 0 {
-        return Accepted {
-            no: last,
-            s: 0,
-            k: 0,
-        };
-    }
-    Accepted {
-        no: 0,
-        s: z.s,
-        k: n,
-    }
+    record::tail_number(r, n, z.s, &costs, &plans)?;
+    Ok(Accepted { s: z.s, k: n })
 }
 
 // Any bytes: are they the record that is written for the book and the count they carry?
-pub fn accept(r: &[u8]) -> Accepted
-    ensures { (result.no ≡ accept_number r.now) × (result.s ≡ accept_states r.now) × (result.k ≡ accept_count r.now) }
+pub fn accept(r: &[u8]) -> Result<Accepted, Refusal>
+    ensures number { number_in result ≡ accept_number r.now }
+    ensures states { IfOk result (λ a. a.s ≡ accept_states r.now) }
+    ensures count { IfOk result (λ a. a.k ≡ accept_count r.now) }
 {
-    let no = record::head_number(r);
-    if no != 0 {
-        return Accepted { no: no, s: 0, k: 0 };
-    }
+    record::head_number(r)?;
     let mut words = record::no_book();
     record::read_book(r, &mut words);
     let w = record::carried_length(r);
@@ -64,6 +53,6 @@ pub fn accept(r: &[u8]) -> Accepted
 pub fn show(r: &[u8], j: usize) -> &[u8]
     ensures { result.now ≡ shown r.now j }
 {
-    let a = accept(r);
+    let a = accept(r).unwrap_or(Accepted { s: 0, k: 0 });
     place::part(r, a.s, a.k, j)
 }

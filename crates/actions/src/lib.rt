@@ -8,8 +8,10 @@ ghost use Rattle.model.specs.Questions.{most_branches, branches_allowed, open_si
 ghost use Rattle.questions.specs.Sizes.{Sized};
 ghost use Rattle.book.specs.Read.{SizesAre};
 ghost use Rattle.actions.specs.Action.{next_above, next_allowed, weights_fit, InColumn, ActionRead, action_number};
+ghost use Rattle.refusal.specs.Refusal.{number_in};
 
 use book::Sizes;
+use refusal::Refusal;
 
 // How many transitions an action of a state before stage H has.
 const FEWEST_BRANCHES: i32 = 0;
@@ -110,24 +112,24 @@ fn open_size(b: &[i32], i: usize) -> usize
     book::size_at(b, i)
 }
 
-// The number of the first of the questions 10 to 13 that the action of r transitions whose first line is at word `at` fails, or 0.
-pub fn action_number(b: &[i32], z: Sizes, q: Limits, at: usize, r: usize) -> u32
+// The questions 10 to 13, of the action of r transitions whose first line is at word `at`.
+pub fn action_number(b: &[i32], z: Sizes, q: Limits, at: usize, r: usize) -> Result<(), Refusal>
     requires { Sized b.now × SizesAre b.now z × ActionRead b.now z q at r }
-    ensures { result ≡ action_number q.most b.now q.n (at - z.columns) }
+    ensures { number_in result ≡ action_number q.most b.now q.n (at - z.columns) }
 {
     let l = z.l;
     let size = open_size(b, at + l);
     if MOST_COST < size {
-        return 10;
+        return Err(Refusal::Cost);
     }
     if !lines_allowed(b, z, at + 1, r, q.width) {
         if !nexts_allowed(b, at + 1, r, q.width) {
-            return 11;
+            return Err(Refusal::NextStates);
         }
-        return 12;
+        return Err(Refusal::Weights);
     }
     if q.most < size {
-        return 13;
+        return Err(Refusal::CostBound);
     }
-    0
+    Ok(())
 }

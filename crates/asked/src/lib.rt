@@ -4,35 +4,32 @@
 ghost use Rattle.std.specs.Prelude.{◌≡◌};
 ghost use Rattle.model.specs.Record.{asked_number};
 ghost use Rattle.asked.specs.Asked.{counted_number};
+ghost use Rattle.refusal.specs.Refusal.{number_in};
 
-// The number of the first of the questions 1 to 14 that is answered no, or 0. A call that lists the policies itself learns by that whether there is one.
+use refusal::Refusal;
+
+// The questions 1 to 14. A call that lists the policies itself learns by that whether there is one.
 #[tactic(auto, using(crate::proofs::Counts::too_low, crate::proofs::Counts::too_high))]
-pub fn counted_number(b: &[i32], k: usize) -> u32
-    ensures { result ≡ counted_number b.now k }
+pub fn counted_number(b: &[i32], k: usize) -> Result<(), Refusal>
+    ensures { number_in result ≡ counted_number b.now k }
 {
-    let no = check_book::check(b);
-    if no != 0 {
-        return no;
-    }
+    check_book::check(b)?;
     if k < 1 {
-        return 14;
+        return Err(Refusal::Count);
     }
     if 64 < k {
-        return 14;
+        return Err(Refusal::Count);
     }
-    0
+    Ok(())
 }
 
-// The number of the first of them that is answered no, or 0.
-pub fn asked_number(b: &[i32], k: usize) -> u32
-    ensures { result ≡ asked_number b.now k }
+// The questions 1 to 14 and 28.
+pub fn asked_number(b: &[i32], k: usize) -> Result<(), Refusal>
+    ensures { number_in result ≡ asked_number b.now k }
 {
-    let no = counted_number(b, k);
-    if no != 0 {
-        return no;
-    }
+    counted_number(b, k)?;
     if !feasible::has_policy(b) {
-        return 28;
+        return Err(Refusal::NoPlan);
     }
-    0
+    Ok(())
 }

@@ -5,6 +5,8 @@ ghost use Rattle.std.specs.Prelude.{◌≡◌};
 ghost use Rattle.model.specs.Calls.{accept_states, accept_count, shown};
 ghost use Rattle.place.specs.Place.{browsed};
 
+use accept::Accepted;
+
 // The bytes of a record, how many states its book has (s) and how many policies it lists (k). `open` gives both as 0 unless the record is accepted.
 #[derive(Clone, Copy)]
 pub struct Browser<'a> {
@@ -17,7 +19,7 @@ pub struct Browser<'a> {
 pub fn open<'a>(r: &'a [u8]) -> Browser<'a>
     ensures { (result.record ≡ r.entry) × (result.s ≡ accept_states r.now) × (result.k ≡ accept_count r.now) }
 {
-    let a = accept::accept(r);
+    let a = accept::accept(r).unwrap_or(Accepted { s: 0, k: 0 });
     Browser {
         record: r,
         s: a.s,

@@ -16,6 +16,7 @@ ghost use Rattle.build.specs.Best.{RowsOf, BestOf, SecondOf};
 ghost use Rattle.build.specs.Walk.{walk_by, chosen, ActionOrNone, Usable, Stepped, Walked, Own, Passed};
 
 use book::Sizes;
+use sets::Set;
 
 // The first best action of state p of the first n that are neither in the set `off` nor c, the first best of those that are not in the set; 255 where
 // there is none.
@@ -26,7 +27,7 @@ fn second_best(q: &[i64; 512], p: usize, n: usize, off: u8, c: usize) -> usize
     if c == 255 {
         return 255;
     }
-    let own = sets::with8(off, c as u8);
+    let own = off.with(c);
     table::best_action(q, p, n, own)
 }
 
@@ -66,7 +67,7 @@ fn choice(best: &[u8; 192], r: usize, c: usize, s: usize) -> usize
     if s == r {
         return c;
     }
-    sets::wide8(best[s])
+    best[s] as usize
 }
 
 // The byte of a state, and the states known to be reached once its next states are too.
@@ -81,7 +82,7 @@ fn step(b: &[i32], nx: &[u64; 512], s: usize, a: usize, reach: u64) -> Stepping
     requires { (book_number b.now ≡ 0) × NextsOf b.now nx.now × (s < state_count b.now) × (has reach s ≡ true → Feasible b.now s a) }
     ensures { Stepped (action b.now) s a result.byte reach result.reach }
 {
-    if !sets::has64(reach, s as u64) {
+    if !reach.has(s) {
         return Stepping {
             byte: 255,
             reach: reach,
@@ -90,7 +91,7 @@ fn step(b: &[i32], nx: &[u64; 512], s: usize, a: usize, reach: u64) -> Stepping
     let more = nx[8 * s + a];
     Stepping {
         byte: a as u8,
-        reach: sets::union64(more, reach),
+        reach: more.union(reach),
     }
 }
 
@@ -104,7 +105,7 @@ pub fn pass_state(b: &[i32], nx: &[u64; 512], plan: &[u8], s: usize, reach: u64)
         return reach;
     }
     let more = nx[8 * s + a];
-    sets::union64(more, reach)
+    more.union(reach)
 }
 
 // The states that the bytes of `plan` before state r reach.

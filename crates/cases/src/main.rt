@@ -30,6 +30,7 @@
 
 ghost use Rattle.std.specs.Prelude.{◌<◌, ◌≤◌};
 
+use refusal::Refusal;
 use reservation::{Answer, Desk};
 
 #[derive(Clone, Copy)]
@@ -119,31 +120,47 @@ fn number_at(bytes: &[u8], at: usize) -> usize
     (bytes_io::read4(bytes, at) + 4294967296 * bytes_io::read4(bytes, at + 4)) as usize
 }
 
+// The number of a call.
+fn number<T>(r: &Result<T, Refusal>) -> i64 {
+    i64::from(refusal::number(r))
+}
+
+// The number and the figure of a call that gives a length or a count.
+fn figures(r: Result<usize, Refusal>) -> [i64; 3] {
+    [number(&r), figure(r.unwrap_or(0)), 0]
+}
+
 // The number and the figures of a call that writes nothing.
 fn ask(h: Head, b: &[i32], part: &[u8]) -> [i64; 3] {
     if h.kind == b'c' {
-        return [check_book::check(b) as i64, 0, 0];
+        return [number(&check_book::check(b)), 0, 0];
     }
     if h.kind == b'l' {
         let v = least::least(b);
-        return [v.no as i64, v.cost, 0];
+        return [number(&v), v.unwrap_or(0), 0];
     }
     if h.kind == b'v' {
         let v = value::value(b, part);
-        return [v.no as i64, v.cost, 0];
+        return [number(&v), v.unwrap_or(0), 0];
     }
     if h.kind == b'a' {
-        let a = accept::accept(part);
-        return [a.no as i64, figure(a.s), figure(a.k)];
+        return match accept::accept(part) {
+            Ok(a) => [0, figure(a.s), figure(a.k)],
+            Err(q) => [i64::from(u32::from(q)), 0, 0],
+        };
     }
     if h.kind == b'q' {
-        let f = find::find(b, h.k, part);
-        return [f.no as i64, f.answer as i64, f.value];
+        return match find::find(b, h.k, part) {
+            Ok(a) => [0, i64::from(a.number()), a.value()],
+            Err(q) => [i64::from(u32::from(q)), 0, 0],
+        };
     }
     if h.kind == b'u' {
         let from = lesser(8, part.len());
-        let l = limit::limit(b, h.k, &part[from..part.len()], number_at(part, 0));
-        return [l.no as i64, l.answer as i64, figure(l.rank)];
+        return match limit::limit(b, h.k, &part[from..], number_at(part, 0)) {
+            Ok(a) => [0, i64::from(a.number()), figure(a.rank())],
+            Err(q) => [i64::from(u32::from(q)), 0, 0],
+        };
     }
     [0, figure(power::power(h.k, h.z as usize) as usize), 0]
 }
@@ -163,7 +180,7 @@ fn put_back(words: &[i32], out: &mut [u8]) {
 fn convert_words(b: &[i32], words: &mut [i32], out: &mut [u8]) -> [i64; 3] {
     let c = convert::convert(b, words);
     put_back(words, out);
-    [c.no as i64, figure(c.length), 0]
+    figures(c)
 }
 
 // Whole words are lent and put back, 5,400 at most; bytes after them stay.
@@ -176,18 +193,15 @@ fn convert_part(b: &[i32], out: &mut [u8]) -> [i64; 3] {
 
 fn lend(h: Head, b: &[i32], costs: &mut [i64], out: &mut [u8]) -> [i64; 3] {
     if h.kind == b'r' {
-        let r = rank::rank(b, h.k, costs, out);
-        return [r.no as i64, figure(r.k), 0];
+        return figures(rank::rank(b, h.k, costs, out));
     }
     if h.kind == b'g' {
-        let r = rank_small::rank_small(b, h.k, costs, out);
-        return [r.no as i64, figure(r.k), 0];
+        return figures(rank_small::rank_small(b, h.k, costs, out));
     }
     if h.kind == b'x' {
         return convert_part(b, out);
     }
-    let w = write::write(b, h.k, out);
-    [w.no as i64, figure(w.length), 0]
+    figures(write::write(b, h.k, out))
 }
 
 fn lend_all(h: Head, b: &[i32], costs: &mut [i64], out: &mut [u8]) {

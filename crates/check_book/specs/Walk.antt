@@ -1,12 +1,14 @@
 -- What a walk over the actions has found so far, by the questions' own tests.
 -- Assumes nothing.
-use Rattle.std.specs.Prelude.{◌≡◌, Bool, true, false, ◌&&◌, ◌⊎◌, ℕ, zero, suc, ◌+◌, ◌≤◌, ◌<◌, min}
+use Rattle.std.specs.Prelude.{◌≡◌, Bool, true, false, ◌&&◌, ℕ, zero, suc, ◌+◌, ◌≤◌, ◌<◌, min, Result, Ok, Err}
 use Rattle.model.specs.Lists.{all}
 use Rattle.model.specs.Model.{Words, line_count, stage_size, state_count, stage, action_count, action_line}
 use Rattle.model.specs.Questions.{every_action, branches_allowed, lines_allowed, cost_allowed, nexts_allowed, weights_allowed}
 use Rattle.book.specs.declared.Sizes.{Sizes}
 use Rattle.actions.specs.Action.{code, cost_up_to}
 use Rattle.actions.specs.declared.Limits.{Limits}
+use Rattle.refusal.specs.declared.Refusal.{Refusal}
+use Rattle.refusal.specs.Refusal.{number_of, number_in}
 use Rattle.check_book.specs.declared.Walk.{Walk}
 
 -- the lower of two numbers, where 0 is none
@@ -31,17 +33,18 @@ partly test ws p c =
 
 pub record Progress (ws : Words) (z : Sizes) (most p c : ℕ) (w : Walk) : Type 0 where
   pub fit : partly branches_allowed ws p c ≡ true
-  pub no_is : w.no ≡ code true (partly cost_allowed ws p c) (partly nexts_allowed ws p c) (partly weights_allowed ws p c) (partly (cost_up_to most) ws p c)
+  pub no_is : number_in w.answer ≡ code true (partly cost_allowed ws p c) (partly nexts_allowed ws p c) (partly weights_allowed ws p c) (partly (cost_up_to most) ws p c)
   pub at-is : w.at ≡ z.columns + action_line ws p c
   pub inside : action_line ws p c ≤ line_count ws
 
 -- the walk has stopped at an action that fails question 9
-pub record Stopped (ws : Words) (w : Walk) : Type 0 where
-  pub no_is : w.no ≡ 9
+pub record Stopped (ws : Words) (q : Refusal) : Type 0 where
+  pub no_is : number_of q ≡ 9
   pub unfit : every_action branches_allowed ws ≡ false
 
-abbrev pub Walked : Words → Sizes → ℕ → ℕ → ℕ → Walk → Type 0
-Walked ws z most p c w = Progress ws z most p c w ⊎ Stopped ws w
+abbrev pub Walked : Words → Sizes → ℕ → ℕ → ℕ → Result Walk Refusal → Type 0
+Walked ws z most p c (Ok w) = Progress ws z most p c w
+Walked ws z most p c (Err q) = Stopped ws q
 
 -- the whole walk
 unfoldable pub walk_number : ℕ → Words → ℕ

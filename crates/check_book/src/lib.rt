@@ -7,83 +7,79 @@ ghost use Rattle.model.specs.Questions.{book_number};
 ghost use Rattle.questions.specs.Sizes.{Sized};
 ghost use Rattle.book.specs.Read.{SizesAre};
 ghost use Rattle.check_book.specs.Walk.{lowest, StateOf, Progress, Walked, walk_number};
+ghost use Rattle.refusal.specs.Refusal.{number_in};
 
 use actions::Limits;
 use book::{Sizes, Stage};
+use refusal::Refusal;
 
 // How far a walk over the actions has come.
 #[derive(Clone, Copy)]
 pub struct Walk {
-    // 9 where it stopped, else the lowest of 10 to 13 so far, or 0
-    pub no: u32,
+    // the first of the questions 10 to 13 that one of them fails
+    pub answer: Result<(), Refusal>,
     // the word of the line after the last action, in the left column
     pub at: usize,
 }
 
-// The lower of two numbers, where 0 is none.
-fn lower(x: u32, y: u32) -> u32
-    ensures { result ≡ lowest x y }
+// The answer of the lower number, where one is no.
+fn lower(x: Result<(), Refusal>, y: Result<(), Refusal>) -> Result<(), Refusal>
+    ensures { number_in result ≡ lowest (number_in x) (number_in y) }
 {
-    if x == 0 {
-        return y;
+    match (x, y) {
+        (Ok(()), _) => y,
+        (_, Ok(())) => x,
+        (Err(a), Err(b)) => {
+            if u32::from(b) < u32::from(a) { y } else { x }
+        }
     }
-    if y == 0 {
-        return x;
-    }
-    if y < x { y } else { x }
 }
 
-// The walk over the actions of state p.
-fn walk_state(b: &[i32], z: Sizes, q: Limits, p: usize, start: Walk) -> Walk
+// The walk over the actions of state p; 9 where one of them fails it.
+fn walk_state(b: &[i32], z: Sizes, q: Limits, p: usize, start: Walk) -> Result<Walk, Refusal>
     requires { Sized b.now × SizesAre b.now z × StateOf b.now p q × Progress b.now z q.most p 0 start }
     ensures { Walked b.now z q.most p (action_count b.now p) result }
 {
     let count = book::size_at(b, 4 + z.h + p);
     let mut w = start;
-    for c in 0..count {
+    for _c in 0..count {
         let at = w.at;
         if !actions::action_fits(b, z, q.n, at) {
-            return Walk { no: 9, at: at };
+            return Err(Refusal::Lines);
         }
         let r = book::size_at(b, at);
-        let no = actions::action_number(b, z, q, at, r);
+        let answer = actions::action_number(b, z, q, at, r);
         w = Walk {
-            no: lower(w.no, no),
+            answer: lower(w.answer, answer),
             at: at + 1 + r,
         };
     }
-    w
+    Ok(w)
 }
 
-// The number of the first of the questions 9 to 13 that is answered no, or 0. `most` is the largest cost that 13 allows.
-fn walk_lines(b: &[i32], z: Sizes, most: usize) -> u32
+// The questions 9 to 13. `most` is the largest cost that 13 allows.
+fn walk_lines(b: &[i32], z: Sizes, most: usize) -> Result<(), Refusal>
     requires { Sized b.now × SizesAre b.now z }
-    ensures { result ≡ walk_number most b.now }
+    ensures { number_in result ≡ walk_number most b.now }
 {
-    let s = z.s;
     let mut t = Stage { n: 0, end: 1 };
     let mut w = Walk {
-        no: 0,
+        answer: Ok(()),
         at: z.columns,
     };
-    for p in 0..s {
+    for p in 0..z.s {
         t = book::stage_for(b, z, t, p);
         let q = Limits {
             n: t.n,
             width: book::size_at(b, 4 + t.n),
-            most: most,
+            most,
         };
-        w = walk_state(b, z, q, p, w);
-        if w.no == 9 {
-            return 9;
-        }
+        w = walk_state(b, z, q, p, w)?;
     }
-    let at = w.at;
-    let end = z.columns + z.l;
-    if at != end {
-        return 9;
+    if w.at != z.columns + z.l {
+        return Err(Refusal::Lines);
     }
-    w.no
+    w.answer
 }
 
 // The largest cost that 13 allows. The product that 13 names can exceed 64 bits, so the bound is divided instead.
@@ -95,17 +91,14 @@ fn cost_limit(z: Sizes) -> usize
     (4000000000000000000 / unit) as usize
 }
 
-// Checking a book: the number of the first question of 1 to 13 that is answered no, or 0.
-pub fn check(b: &[i32]) -> u32
-    ensures { result ≡ book_number b.now }
+// Checking a book: the questions 1 to 13.
+pub fn check(b: &[i32]) -> Result<(), Refusal>
+    ensures { number_in result ≡ book_number b.now }
 {
-    let no = header::size_number(b);
-    if no != 0 {
-        return no;
-    }
+    header::size_number(b)?;
     let z = book::read_sizes(b);
     if !header::counts_allowed(b, z) {
-        return 8;
+        return Err(Refusal::ActionCounts);
     }
     let most = cost_limit(z);
     walk_lines(b, z, most)

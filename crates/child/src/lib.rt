@@ -12,6 +12,7 @@ ghost use Rattle.child.specs.Move.{Movable};
 ghost use Rattle.child.specs.Children.{Parenting, entry_of, next_by, ChildIs};
 
 use book::Sizes;
+use sets::Set;
 
 // The candidate whose first policy is listed: its cost, its split state and the set of actions barred there. Its bytes are lent beside it.
 #[derive(Clone, Copy)]
@@ -50,9 +51,9 @@ pub fn mask_at(split: usize, mask: u8, p: usize, f: usize) -> u8
     ensures { result ≡ with (cond (eqb p split) mask 0) f }
 {
     if p == split {
-        return sets::with8(mask, f as u8);
+        return mask.with(f);
     }
-    sets::with8(0, f as u8)
+    0u8.with(f)
 }
 
 // No child: its action is 255.
@@ -82,10 +83,10 @@ fn next_action(
 {
     if split == p {
         let n = index::count(b, z, p);
-        let all = sets::union8(mask, best[128 + p]);
+        let all = mask.union(best[128 + p]);
         return table::best_action(q, p, n, all);
     }
-    sets::wide8(best[64 + p])
+    best[64 + p] as usize
 }
 
 // The child of e at state p, if e reaches p and an action is left there.

@@ -4,59 +4,57 @@
 
 ghost use Rattle.std.specs.Prelude.{◌≡◌};
 ghost use Rattle.reservation.specs.Reservations.{held_by, committed_by, reply, asking, committing, cancelling, opening};
+ghost use Rattle.refusal.specs.Refusal.{number_in};
 
+use refusal::Refusal;
 use reservation::{Answer, Desk};
 
 // Opening by value: the record's questions are asked.
 pub fn opened(desk: Desk, record: &[u8]) -> Answer
     ensures { result ≡ opening desk «record».now }
 {
-    let a = accept::accept(record);
-    desk.opening(a.no, a.k as u8)
+    match accept::accept(record) {
+        Ok(a) => desk.opening(Ok(()), a.k as u8),
+        Err(q) => desk.opening(Err(q), 0),
+    }
 }
 
 // Holds a rank for a rider, whose earlier hold is dropped. A rank that is listed is a byte, as k is one.
-pub fn ask(desk: &mut Desk, rider: usize, rank: usize) -> u32
-    ensures { reply result desk.new ≡ asking desk.old rider rank }
+pub fn ask(desk: &mut Desk, rider: usize, rank: usize) -> Result<(), Refusal>
+    ensures { reply (number_in result) desk.new ≡ asking desk.old rider rank }
 {
-    let no = desk.ask_number(rider, rank);
-    if no == 0 {
-        prove!(rank <= desk.k as usize);
-        desk.held[rider] = rank as u8;
-    }
-    no
+    desk.ask_number(rider, rank)?;
+    prove!(rank <= desk.k as usize);
+    desk.held[rider] = rank as u8;
+    Ok(())
 }
 
 // The rank that the rider holds becomes theirs.
-pub fn commit(desk: &mut Desk, rider: usize) -> u32
-    ensures { reply result desk.new ≡ committing desk.old rider }
+pub fn commit(desk: &mut Desk, rider: usize) -> Result<(), Refusal>
+    ensures { reply (number_in result) desk.new ≡ committing desk.old rider }
 {
-    let no = desk.commit_number(rider);
-    if no == 0 {
-        desk.committed[rider] = desk.held[rider];
-        desk.held[rider] = 0;
-    }
-    no
+    desk.commit_number(rider)?;
+    desk.committed[rider] = desk.held[rider];
+    desk.held[rider] = 0;
+    Ok(())
 }
 
 // Drops what the rider holds, and never a commitment.
-pub fn cancel(desk: &mut Desk, rider: usize) -> u32
-    ensures { reply result desk.new ≡ cancelling desk.old rider }
+pub fn cancel(desk: &mut Desk, rider: usize) -> Result<(), Refusal>
+    ensures { reply (number_in result) desk.new ≡ cancelling desk.old rider }
 {
-    let no = desk.cancel_number(rider);
-    if no == 0 {
-        desk.held[rider] = 0;
-    }
-    no
+    desk.cancel_number(rider)?;
+    desk.held[rider] = 0;
+    Ok(())
 }
 
 // Opens the desk, also anew, with the k of a record that is accepted.
-pub fn open(desk: &mut Desk, record: &[u8]) -> u32
-    ensures { reply result desk.new ≡ opening desk.old «record».now }
+pub fn open(desk: &mut Desk, record: &[u8]) -> Result<(), Refusal>
+    ensures { reply (number_in result) desk.new ≡ opening desk.old «record».now }
 {
-    let a = opened(*desk, record);
-    *desk = a.desk;
-    a.no
+    let a = accept::accept(record)?;
+    *desk = desk.opening(Ok(()), a.k as u8).desk;
+    Ok(())
 }
 
 // The rank that a rider holds, 0 none.

@@ -21,6 +21,7 @@ ghost use Rattle.engine.specs.Engine.{Ready, RowOf, may_enter, ParentIs, Startab
 use book::Sizes;
 use child::{Child, Parent};
 use pool::Pool;
+use sets::Set;
 
 fn zeros() -> [u8; 64]
     ensures { length result ≡ 64 }
@@ -73,7 +74,7 @@ fn first_of<'a>(
     let cost = costs[slot];
     Parent {
         cost: cost,
-        split: pool::wide(splits[slot]),
+        split: splits[slot] as usize,
         mask: barred[slot],
     }
 }
@@ -98,7 +99,7 @@ fn first_pool(b: &[i32], z: Sizes, nx: &[u64; 512], best: &[u8; 192], cost: i64,
     requires { Checked b.now z × NextsOf b.now nx.now × BestOf b.now best.now × Alive b.now 0 × (cost ≡ (first_candidate b.now).cost) × (1 ≤ k) × (k ≤ 64) }
     ensures { Formed result × (result.most ≡ k) × (entries (state_count b.now) result ≡ first_candidate b.now ∷ []) }
 {
-    let first = sets::wide8(best[0]);
+    let first = best[0] as usize;
     let none = zeros();
     let mut row = zeros();
     row_of(b, z, nx, best, &none, 0, first, 1, &mut row);
@@ -211,7 +212,7 @@ pub fn list_by(
     ensures { Ranked b.now k result costs.old costs.new plans.old plans.new }
 {
     let m = feasible::find_barred(b, z, x);
-    if sets::has64(m.dead, 0) {
+    if m.dead.has(0) {
         return 0;
     }
     let mut nx = nexts::no_sets();

@@ -16,6 +16,7 @@ ghost use Rattle.enumerate.specs.Ways.{ways_at};
 ghost use Rattle.enumerate.specs.Steps.{HigherIs, RaiseIs, Lowest, Onward, ReachedBefore, Filled, Stands, IsFirst, Followed, CountIs};
 
 use book::Sizes;
+use sets::Set;
 
 // The first of the actions from `from` to n - 1 that is not in the set; 255 where there is none.
 fn first_free(mask: u8, from: usize, n: usize) -> usize
@@ -23,7 +24,7 @@ fn first_free(mask: u8, from: usize, n: usize) -> usize
     ensures { result ≡ first_of (free mask (up_from from (n - from))) }
 {
     for c in from..n {
-        if !sets::has8(mask, c as u8) {
+        if !mask.has(c) {
             return c;
         }
     }
@@ -73,7 +74,7 @@ fn lowest_byte(b: &[i32], z: Sizes, off: &[u8; 64], p: usize, known: u64) -> usi
     requires { Checked b.now z × BarredOf b.now off.now × (p < state_count b.now) }
     ensures { Lowest b.now p known result }
 {
-    if !sets::has64(known, p as u64) {
+    if !known.has(p) {
         return 255;
     }
     let n = index::count(b, z, p);
@@ -90,7 +91,7 @@ fn onward(b: &[i32], z: Sizes, x: &[usize; 192], p: usize, c: usize, known: u64)
     }
     let a = lines::of_action(b, z, x, p, c);
     let more = nexts::next_set(b, a, p, c);
-    sets::union64(more, known)
+    more.union(known)
 }
 
 // Fills in the lowest actions of the states from `from` on, where the bytes before it reach the states of `set`. At p of `reach` it leaves the set of the
@@ -166,7 +167,7 @@ fn count_free(mask: u8, n: usize) -> usize
 {
     let mut found: usize = 0;
     for c in 0..n {
-        if !sets::has8(mask, c as u8) {
+        if !mask.has(c) {
             found = found + 1;
         }
     }

@@ -14,6 +14,7 @@ ghost use Rattle.feasible.specs.Barred.{avoids, goes_by, DeadFrom, Leaves, Barre
 
 use book::Sizes;
 use lines::Lines;
+use sets::Set;
 
 // For each state the set of its actions that no policy can take, and the set of the states all of whose actions are such.
 #[derive(Drop)]
@@ -30,7 +31,7 @@ fn avoids(b: &[i32], a: Lines, p: usize, c: usize, dead: u64) -> bool
     let r = a.r;
     for i in 0..r {
         let q = lines::next(b, a, p, c, i);
-        if sets::has64(dead, q as u64) {
+        if dead.has(q) {
             return false;
         }
     }
@@ -62,7 +63,7 @@ fn barred_at(b: &[i32], z: Sizes, x: &[usize; 192], p: usize, dead: u64) -> u8
     for c in 0..n {
         let a = lines::of_line(b, z, x, p, c, j);
         if !goes_on(b, a, p, c, dead) {
-            mask = sets::with8(mask, c as u8);
+            mask = mask.with(c);
         }
         j = index::line_after(b, z, p, c, j);
     }
@@ -75,7 +76,7 @@ fn none_left(mask: u8, n: usize) -> bool
     ensures { result ≡ is_empty (free mask (up_from 0 n)) }
 {
     for c in 0..n {
-        if !sets::has8(mask, c as u8) {
+        if !mask.has(c) {
             return false;
         }
     }
@@ -100,7 +101,7 @@ pub fn find_barred(b: &[i32], z: Sizes, x: &[usize; 192]) -> Barred
         off[p] = mask;
         let n = index::count(b, z, p);
         if none_left(mask, n) {
-            dead = sets::with64(dead, p as u64);
+            dead = dead.with(p);
         }
     }
     Barred {
@@ -117,5 +118,5 @@ pub fn has_policy(b: &[i32]) -> bool
     let z = book::read_sizes(b);
     let x = index::index(b, z);
     let m = find_barred(b, z, &x);
-    !sets::has64(m.dead, 0)
+    !m.dead.has(0)
 }

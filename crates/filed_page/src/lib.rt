@@ -19,13 +19,12 @@ pub fn buffer() -> [u8; MOST_READ]
 pub fn print_record(r: &[u8], out: &mut [u8]) -> usize
     ensures { Put most_page (record_page r.now) out.old out.new result }
 {
-    let a = accept::accept(r);
     let mut words = record::no_book();
-    if a.no != 0 {
-        return page::put_page(a.no, &words[..0], 0, out);
+    if let Err(q) = accept::accept(r) {
+        return page::put_page(Err(q), &words[..0], 0, out);
     }
     record::read_book(r, &mut words);
     let w = record::carried_length(r);
     let k = record::carried_k(r);
-    page::put_page(0, &words[..w], k, out)
+    page::put_page(Ok(()), &words[..w], k, out)
 }

@@ -24,9 +24,8 @@ pub fn file_record(input: &[u8], out: &mut [u8]) -> usize
     }
     let q = input::read(input);
     let words = q.words;
-    let w = write::write(&words[..q.n], q.k, out);
-    if w.no != 0 {
-        return page_lines::put_refused(out, w.no);
+    match write::write(&words[..q.n], q.k, out) {
+        Ok(n) => n,
+        Err(no) => page_lines::put_refused(out, no),
     }
-    w.length
 }

@@ -1,26 +1,54 @@
 // Request 2.8, "Where is my plan?": the rank of a policy in the list of a book and K, or why it is not listed.
 #![tactic(auto)]
 
-ghost use Rattle.std.specs.Prelude.{◌≡◌, ◌+◌, ◌*◌, ◌≤◌, pos, nat_abs, length, take, drop};
-ghost use Rattle.model.specs.Standing.{place_in, beside_last};
-ghost use Rattle.model.specs.Calls.{find_number, find_answer, find_value};
+ghost use Rattle.std.specs.Prelude.{◌≡◌, ◌+◌, ◌*◌, ◌≤◌, nat_abs, length, take, drop, IfOk};
+ghost use Rattle.model.specs.Standing.{place_in, beside_last, answer_number, answer_value, standing};
+ghost use Rattle.model.specs.Calls.{find_number};
 ghost use Rattle.record.specs.Parts.{parts};
-ghost use Rattle.find.specs.Tells.{Tells};
+ghost use Rattle.find.specs.Says.{says};
+ghost use Rattle.refusal.specs.Refusal.{number_in};
 
-// The number of the first question that is answered no, or 0; which of the three answers: 1, the plan is listed, 2, it costs more than the last listed, 3, it
-// costs the same and takes the higher action; and the rank, the amount over D^H or the state. Both are 0 where the call is refused.
-#[derive(Clone, Copy)]
-pub struct Found {
-    pub no: u32,
-    pub answer: u32,
-    pub value: i64,
+use refusal::Refusal;
+
+// Which of the three answers is true of a plan.
+#[derive(Clone, Copy, Debug, PartialEq, Eq)]
+pub enum Standing {
+    // it is this rank of the list, from 1
+    Rank(u8),
+    // it costs more than the last listed, by this much over D^H
+    CostsMore(i64),
+    // it costs the same, and at this state, the first where they differ, takes the higher action
+    TakesHigher(u8),
+}
+
+impl Standing {
+    ghost use Rattle.find.specs.Says.{says};
+
+    // Which of the three, from 1.
+    pub fn number(self) -> u32
+        ensures { result ≡ answer_number (says self) }
+    {
+        match self {
+            Standing::Rank(_) => 1,
+            Standing::CostsMore(_) => 2,
+            Standing::TakesHigher(_) => 3,
+        }
+    }
+
+    // The rank, the amount or the state.
+    pub fn value(self) -> i64
+        ensures { result ≡ answer_value (says self) }
+    {
+        match self {
+            Standing::Rank(j) => i64::from(j),
+            Standing::CostsMore(z) => z,
+            Standing::TakesHigher(p) => i64::from(p),
+        }
+    }
 }
 
 // Ranks are counted from 1.
-const FIRST_RANK: i64 = 1;
-
-// States are counted from 0.
-const FIRST_STATE: i64 = 0;
+const FIRST_RANK: u8 = 1;
 
 // How many of the n listed policies stand above a plan: n where it is not listed.
 fn place_in(plans: &[u8], n: usize, plan: &[u8]) -> usize
@@ -37,62 +65,33 @@ fn place_in(plans: &[u8], n: usize, plan: &[u8]) -> usize
 }
 
 // Of a policy that is not listed, beside the last one that is: its bytes begin at index `at`, and it costs `last`.
-fn beside_last(plans: &[u8], at: usize, last: i64, plan: &[u8], cost: i64) -> Found
-    requires { (at + length plan.now ≤ length plans.now) × (nat_abs last ≤ 4000000000000000000) × (nat_abs cost ≤ 4000000000000000000) }
-    ensures { Tells (beside_last (take (length plan.now) (drop at plans.now)) last plan.now cost) result }
+fn beside_last(plans: &[u8], at: usize, last: i64, plan: &[u8], cost: i64) -> Standing
+    requires { (at + length plan.now ≤ length plans.now) × (length plan.now ≤ 64) × (nat_abs last ≤ 4000000000000000000) × (nat_abs cost ≤ 4000000000000000000) }
+    ensures { says result ≡ beside_last (take (length plan.now) (drop at plans.now)) last plan.now cost }
 {
     if last < cost {
-        return Found {
-            no: 0,
-            answer: 2,
-            value: cost - last,
-        };
+        return Standing::CostsMore(cost - last);
     }
-    let p = compare::first_difference(plans, at, plan, plan.len());
-    Found {
-        no: 0,
-        answer: 3,
-        value: p as i64 + FIRST_STATE,
-    }
-}
-
-// A refusal has neither answer nor value.
-fn refused(no: u32) -> Found
-    ensures { (result.no ≡ no) × (result.answer ≡ 0) × (result.value ≡ pos 0) }
-{
-    Found {
-        no: no,
-        answer: 0,
-        value: 0,
-    }
+    Standing::TakesHigher(compare::first_difference(plans, at, plan, plan.len()) as u8)
 }
 
 // Where a plan stands, for any book, count and bytes.
-pub fn find(b: &[i32], k: usize, plan: &[u8]) -> Found
-    ensures { (result.no ≡ find_number b.now k plan.now) × (result.answer ≡ find_answer b.now k plan.now) × (result.value ≡ find_value b.now k plan.now) }
+pub fn find(b: &[i32], k: usize, plan: &[u8]) -> Result<Standing, Refusal>
+    ensures number { number_in result ≡ find_number b.now k plan.now }
+    ensures answer { IfOk result (λ a. says a ≡ standing b.now k plan.now) }
 {
-    let no = asked::counted_number(b, k);
-    if no != 0 {
-        return refused(no);
-    }
+    asked::counted_number(b, k)?;
     let mut costs = listing::no_costs();
     let mut plans = listing::no_plans();
     let n = listing::fill(b, k, &mut costs, &mut plans);
     if n == 0 {
-        return refused(28);
+        return Err(Refusal::NoPlan);
     }
     let z = lines::sizes(b);
-    let v = policy::judge(b, z, plan);
-    if !v.is {
-        return refused(17);
-    }
+    let cost = policy::judge(b, z, plan).ok_or(Refusal::Plan)?;
     let j = place_in(&plans, n, plan);
     if j < n {
-        return Found {
-            no: 0,
-            answer: 1,
-            value: j as i64 + FIRST_RANK,
-        };
+        return Ok(Standing::Rank(j as u8 + FIRST_RANK));
     }
-    beside_last(&plans, (n - 1) * plan.len(), costs[n - 1], plan, v.cost)
+    Ok(beside_last(&plans, (n - 1) * plan.len(), costs[n - 1], plan, cost))
 }

@@ -9,7 +9,8 @@ ghost use Rattle.input.specs.Ahead.{end_ahead};
 ghost use Rattle.finding.specs.Line.{found_line};
 ghost use Rattle.finding.specs.Enough.{most_find};
 
-use find::Found;
+use find::Standing;
+use refusal::Refusal;
 
 // The bytes of the input that count: the length of a plan, the longest plan of such a length, and the K and book of any program.
 const MOST_FIND: usize = 16952;
@@ -21,31 +22,37 @@ pub fn buffer() -> [u8; MOST_FIND]
     [0; MOST_FIND]
 }
 
-// The index after the plan, whose length the first byte says; 0 where the input ends before it.
-fn plan_end(input: &[u8]) -> usize
+// The index after the plan, whose length the first byte says, if the input goes so far.
+fn plan_end(input: &[u8]) -> Option<usize>
     ensures { result ≡ end_ahead (1 + get_or input.now 0 0) input.now }
 {
     if input.len() < 1 {
-        return 0;
+        return None;
     }
-    let n = bytes_io::wide(input[0]) as usize;
+    let n = usize::from(input[0]);
     if input.len() <= n {
-        return 0;
+        return None;
     }
-    n + 1
+    Some(n + 1)
 }
 
 // The line of what was found.
-fn put_found(out: &mut [u8], f: Found) -> usize
+fn put_found(out: &mut [u8], found: Result<Standing, Refusal>) -> usize
     requires { most_line ≤ length out.old }
-    ensures { Appended out.old 0 (found_line f.no f.answer f.value) out.new result }
+    ensures { Appended out.old 0 (found_line found) out.new result }
 {
-    if f.no != 0 {
-        return page_lines::put_refused(out, f.no);
+    match found {
+        Err(q) => page_lines::put_refused(out, q),
+        Ok(a) => {
+            let at = match a {
+                Standing::Rank(_) => text::put_text(out, 0, b"rank "),
+                Standing::CostsMore(_) => text::put_text(out, 0, b"more "),
+                Standing::TakesHigher(_) => text::put_text(out, 0, b"post "),
+            };
+            let end = text::put_signed(out, at, a.value());
+            text::put_byte(out, end, 10)
+        }
     }
-    let a = page_lines::put_one_of(out, f.answer, b"rank ", b"more ", b"post ");
-    let b = text::put_signed(out, a, f.value);
-    text::put_byte(out, b, 10)
 }
 
 // The line of any input to the front of `out`; gives its length. A slice that may be too short gets nothing.
@@ -55,12 +62,11 @@ pub fn print_place(input: &[u8], out: &mut [u8]) -> usize
     if out.len() < page_lines::MOST_LINE {
         return 0;
     }
-    let end = plan_end(input);
-    if end == 0 {
-        return page_lines::put_refused(out, 1);
-    }
+    let Some(end) = plan_end(input) else {
+        return page_lines::put_refused(out, Refusal::TooShort);
+    };
     let q = input::read(&input[end..]);
     let words = q.words;
-    let f = find::find(&words[..q.n], q.k, &input[1..end]);
-    put_found(out, f)
+    let found = find::find(&words[..q.n], q.k, &input[1..end]);
+    put_found(out, found)
 }

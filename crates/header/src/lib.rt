@@ -6,8 +6,10 @@ ghost use Rattle.model.specs.Model.{word};
 ghost use Rattle.model.specs.Questions.{first_no, sizes_allowed, length_allowed, counts_allowed, size_questions};
 ghost use Rattle.questions.specs.Sizes.{Sized};
 ghost use Rattle.book.specs.Read.{Headed, SizesAre};
+ghost use Rattle.refusal.specs.Refusal.{number_in};
 
 use book::Sizes;
+use refusal::Refusal;
 
 // 6
 fn sizes_allowed(b: &[i32], z: Sizes) -> bool
@@ -31,34 +33,34 @@ fn length_allowed(b: &[i32], z: Sizes) -> bool
     b.len() == z.columns + 2 * z.l
 }
 
-// The number of the first of the questions 1 to 7 that is answered no, or 0.
-pub fn size_number(b: &[i32]) -> u32
-    ensures { result ≡ first_no size_questions b.now }
+// The questions 1 to 7.
+pub fn size_number(b: &[i32]) -> Result<(), Refusal>
+    ensures { number_in result ≡ first_no size_questions b.now }
 {
     if b.len() < 3 {
-        return 1;
+        return Err(Refusal::TooShort);
     }
     if !book::word_in(b, 0, 1, 100) {
-        return 2;
+        return Err(Refusal::Scale);
     }
     if !book::word_in(b, 1, 1, 8) {
-        return 3;
+        return Err(Refusal::Horizon);
     }
     if !book::word_in(b, 2, 1, 2048) {
-        return 4;
+        return Err(Refusal::LineCount);
     }
     let h = book::size_at(b, 1);
     if b.len() < 4 + h {
-        return 5;
+        return Err(Refusal::NoStages);
     }
     let z = book::read_sizes(b);
     if !sizes_allowed(b, z) {
-        return 6;
+        return Err(Refusal::StageSizes);
     }
     if !length_allowed(b, z) {
-        return 7;
+        return Err(Refusal::Length);
     }
-    0
+    Ok(())
 }
 
 // The most actions of a state, at stage H as at any other.

@@ -11,6 +11,7 @@ ghost use Rattle.reservation.specs.Reservations.{held_by, committed_by, open_for
 ghost use Rattle.kbest_c.specs.Part.{shown_offset, shown_length};
 ghost use Rattle.kbest_c.specs.Version.{version};
 
+use accept::Accepted;
 use reservation::Desk;
 
 // The version in the file VERSION: its first number × 10,000 + its second × 100 + its third.
@@ -29,7 +30,7 @@ pub extern "C" fn kbest_version() -> u32
 pub extern "C" fn kbest_check(book: &[i32]) -> u32
     ensures { result ≡ book_number book.now }
 {
-    check_book::check(book)
+    refusal::number(&check_book::check(book))
 }
 
 // d^e for d from 1 to 100 and e from 0 to 8, else 0.
@@ -46,9 +47,8 @@ pub extern "C" fn kbest_value(book: &[i32], plan: &[u8], cost: &mut i64) -> u32
     ensures { (result ≡ value_number book.now plan.now) × (cost.new ≡ value_cost book.now plan.now) }
 {
     let v = value::value(book, plan);
-    let c = v.cost;
-    *cost = c;
-    v.no
+    *cost = v.unwrap_or(0);
+    refusal::number(&v)
 }
 
 // The number of the least cost of a book; that cost over D^H, 0 where it is refused.
@@ -57,9 +57,8 @@ pub extern "C" fn kbest_least(book: &[i32], cost: &mut i64) -> u32
     ensures { (result ≡ least_number book.now) × (cost.new ≡ least_cost book.now) }
 {
     let v = least::least(book);
-    let c = v.cost;
-    *cost = c;
-    v.no
+    *cost = v.unwrap_or(0);
+    refusal::number(&v)
 }
 
 // The number of ranking the k best plans; how many are listed. Their costs and plans go to the fronts of the two slices.
@@ -73,9 +72,9 @@ pub extern "C" fn kbest_rank(
 ) -> u32
     ensures { (result ≡ rank_number book.now (room_of k costs.old plans.old)) × (listed.new ≡ rank_count book.now (room_of k costs.old plans.old)) × (costs.new ≡ rank_costs book.now k costs.old plans.old) × (plans.new ≡ rank_plans book.now k costs.old plans.old) }
 {
-    let a = rank::rank(book, k, costs, plans);
-    *listed = a.k;
-    a.no
+    let n = rank::rank(book, k, costs, plans);
+    *listed = n.unwrap_or(0);
+    refusal::number(&n)
 }
 
 // The same for a book with at most 4,096 plans, by going through all of them; a book with more gets 30.
@@ -89,9 +88,9 @@ pub extern "C" fn kbest_rank_small(
 ) -> u32
     ensures { (result ≡ small_number book.now (room_of k costs.old plans.old)) × (listed.new ≡ small_count book.now (room_of k costs.old plans.old)) × (costs.new ≡ small_costs book.now k costs.old plans.old) × (plans.new ≡ small_plans book.now k costs.old plans.old) }
 {
-    let a = rank_small::rank_small(book, k, costs, plans);
-    *listed = a.k;
-    a.no
+    let n = rank_small::rank_small(book, k, costs, plans);
+    *listed = n.unwrap_or(0);
+    refusal::number(&n)
 }
 
 // The number of finding a plan in the list of a book and k; which of the three answers it gets, and its rank, amount or state, both 0 where it is refused.
@@ -105,11 +104,18 @@ pub extern "C" fn kbest_find(
 ) -> u32
     ensures { (result ≡ find_number book.now k plan.now) × (answer.new ≡ find_answer book.now k plan.now) × (value.new ≡ find_value book.now k plan.now) }
 {
-    let f = find::find(book, k, plan);
-    let v = f.value;
-    *answer = f.answer;
-    *value = v;
-    f.no
+    let found = find::find(book, k, plan);
+    match found {
+        Ok(a) => {
+            *answer = a.number();
+            *value = a.value();
+        }
+        Err(_) => {
+            *answer = 0;
+            *value = 0;
+        }
+    }
+    refusal::number(&found)
 }
 
 // The number of seeking the first listed plan none of whose days makes more than m marked choices; which of the three answers there is, and the rank, 0 where
@@ -125,10 +131,18 @@ pub extern "C" fn kbest_limit(
 ) -> u32
     ensures { (result ≡ limit_number book.now k (limit_of marks.now m)) × (answer.new ≡ limit_answer book.now k (limit_of marks.now m)) × (rank.new ≡ limit_rank book.now k (limit_of marks.now m)) }
 {
-    let l = limit::limit(book, k, marks, m);
-    *answer = l.answer;
-    *rank = l.rank;
-    l.no
+    let limited = limit::limit(book, k, marks, m);
+    match limited {
+        Ok(a) => {
+            *answer = a.number();
+            *rank = a.rank();
+        }
+        Err(_) => {
+            *answer = 0;
+            *rank = 0;
+        }
+    }
+    refusal::number(&limited)
 }
 
 // The number of writing the record of a book and k; its length. The record goes to the front of the slice.
@@ -136,9 +150,9 @@ pub extern "C" fn kbest_limit(
 pub extern "C" fn kbest_write(book: &[i32], k: usize, filed: &mut [u8], size: &mut usize) -> u32
     ensures { (result ≡ write_number book.now k (length filed.old)) × (size.new ≡ write_length book.now k (length filed.old)) × (filed.new ≡ write_record book.now k filed.old) }
 {
-    let w = write::write(book, k, filed);
-    *size = w.length;
-    w.no
+    let n = write::write(book, k, filed);
+    *size = n.unwrap_or(0);
+    refusal::number(&n)
 }
 
 // The number of converting a planners' table to a book; the book's length in words. The book goes to the front of the slice.
@@ -146,9 +160,9 @@ pub extern "C" fn kbest_write(book: &[i32], k: usize, filed: &mut [u8], size: &m
 pub extern "C" fn kbest_convert(table: &[i32], book: &mut [i32], size: &mut usize) -> u32
     ensures { (result ≡ convert_number table.now (length book.old)) × (size.new ≡ convert_length table.now (length book.old)) × (book.new ≡ convert_slice table.now book.old) }
 {
-    let c = convert::convert(table, book);
-    *size = c.length;
-    c.no
+    let n = convert::convert(table, book);
+    *size = n.unwrap_or(0);
+    refusal::number(&n)
 }
 
 // The number of accepting a record; how many states its book has and how many plans it lists.
@@ -156,10 +170,11 @@ pub extern "C" fn kbest_convert(table: &[i32], book: &mut [i32], size: &mut usiz
 pub extern "C" fn kbest_accept(filed: &[u8], states: &mut usize, listed: &mut usize) -> u32
     ensures { (result ≡ accept_number filed.now) × (states.new ≡ accept_states filed.now) × (listed.new ≡ accept_count filed.now) }
 {
-    let a = accept::accept(filed);
+    let accepted = accept::accept(filed);
+    let a = accepted.unwrap_or(Accepted { s: 0, k: 0 });
     *states = a.s;
     *listed = a.k;
-    a.no
+    refusal::number(&accepted)
 }
 
 // Where plan j lies in the record: an offset and a length, both 0 where nothing is shown. An exported function returns no part of a slice.
@@ -167,7 +182,7 @@ pub extern "C" fn kbest_accept(filed: &[u8], states: &mut usize, listed: &mut us
 pub extern "C" fn kbest_show(filed: &[u8], j: usize, offset: &mut usize, size: &mut usize)
     ensures { (take size.new (drop offset.new filed.now) ≡ shown filed.now j) × (offset.new ≡ shown_offset filed.now j) × (size.new ≡ shown_length filed.now j) }
 {
-    let a = accept::accept(filed);
+    let a = accept::accept(filed).unwrap_or(Accepted { s: 0, k: 0 });
     let p = place::locate(filed, a.s, a.k, j);
     *offset = p.from;
     *size = p.size;
@@ -188,7 +203,7 @@ pub extern "C" fn kbest_desk_fresh() -> Desk
 pub extern "C" fn kbest_desk_open(desk: &mut Desk, filed: &[u8]) -> u32
     ensures { reply result desk.new ≡ opening desk.old filed.now }
 {
-    desk::open(desk, filed)
+    refusal::number(&desk::open(desk, filed))
 }
 
 // The number of asking: the rank is then held for the rider.
@@ -196,7 +211,7 @@ pub extern "C" fn kbest_desk_open(desk: &mut Desk, filed: &[u8]) -> u32
 pub extern "C" fn kbest_desk_ask(desk: &mut Desk, rider: usize, rank: usize) -> u32
     ensures { reply result desk.new ≡ asking desk.old rider rank }
 {
-    desk::ask(desk, rider, rank)
+    refusal::number(&desk::ask(desk, rider, rank))
 }
 
 // The number of committing: the rank that the rider holds is then theirs.
@@ -204,7 +219,7 @@ pub extern "C" fn kbest_desk_ask(desk: &mut Desk, rider: usize, rank: usize) -> 
 pub extern "C" fn kbest_desk_commit(desk: &mut Desk, rider: usize) -> u32
     ensures { reply result desk.new ≡ committing desk.old rider }
 {
-    desk::commit(desk, rider)
+    refusal::number(&desk::commit(desk, rider))
 }
 
 // The number of cancelling: the rider then holds no rank.
@@ -212,7 +227,7 @@ pub extern "C" fn kbest_desk_commit(desk: &mut Desk, rider: usize) -> u32
 pub extern "C" fn kbest_desk_cancel(desk: &mut Desk, rider: usize) -> u32
     ensures { reply result desk.new ≡ cancelling desk.old rider }
 {
-    desk::cancel(desk, rider)
+    refusal::number(&desk::cancel(desk, rider))
 }
 
 // The rank that a rider holds, 0 none.

@@ -9,7 +9,8 @@ ghost use Rattle.input.specs.Ahead.{end_ahead};
 ghost use Rattle.limiting.specs.Line.{limited_line};
 ghost use Rattle.limiting.specs.Enough.{most_limit};
 
-use limit::Limited;
+use limit::Kept;
+use refusal::Refusal;
 
 // The bytes of the input that count: m, the number of the marks, as many marks as its two bytes can say, and the K and book of any program.
 const MOST_LIMIT: usize = 82234;
@@ -21,42 +22,37 @@ pub fn buffer() -> [u8; MOST_LIMIT]
     [0; MOST_LIMIT]
 }
 
-// The index after the marks, whose number stands in the two bytes after m; 0 where the input ends before it.
-fn marks_end(input: &[u8]) -> usize
+// The index after the marks, whose number stands in the two bytes after m, if the input goes so far.
+fn marks_end(input: &[u8]) -> Option<usize>
     ensures { result ≡ end_ahead (3 + mark_count input.now) input.now }
 {
     if input.len() < 3 {
-        return 0;
+        return None;
     }
-    let low = bytes_io::wide(input[1]);
-    let high = bytes_io::wide(input[2]);
-    let end = (low + 256 * high) as usize + 3;
+    let low = usize::from(input[1]);
+    let high = usize::from(input[2]);
+    let end = low + 256 * high + 3;
     if input.len() < end {
-        return 0;
+        return None;
     }
-    end
+    Some(end)
 }
 
 // The line of an answer.
-fn put_limited(out: &mut [u8], f: Limited) -> usize
+fn put_limited(out: &mut [u8], limited: Result<Kept, Refusal>) -> usize
     requires { most_line ≤ length out.old }
-    ensures { Appended out.old 0 (limited_line f.no f.answer f.rank) out.new result }
+    ensures { Appended out.old 0 (limited_line limited) out.new result }
 {
-    if f.no != 0 {
-        return page_lines::put_refused(out, f.no);
+    match limited {
+        Err(q) => page_lines::put_refused(out, q),
+        Ok(Kept::NoneListed) => text::put_text(out, 0, b"none in the list\n"),
+        Ok(Kept::NoneInBook) => text::put_text(out, 0, b"none in the book\n"),
+        Ok(Kept::Rank(j)) => {
+            let at = text::put_text(out, 0, b"rank ");
+            let end = text::put_number(out, at, u64::from(j));
+            text::put_byte(out, end, 10)
+        }
     }
-    let a = page_lines::put_one_of(
-        out,
-        f.answer,
-        b"rank ",
-        b"none in the list\n",
-        b"none in the book\n",
-    );
-    if f.answer != 1 {
-        return a;
-    }
-    let b = text::put_number(out, a, f.rank as u64);
-    text::put_byte(out, b, 10)
 }
 
 // The line of any input to the front of `out`; gives its length. A slice that may be too short gets nothing.
@@ -66,13 +62,12 @@ pub fn print_limit(input: &[u8], out: &mut [u8]) -> usize
     if out.len() < page_lines::MOST_LINE {
         return 0;
     }
-    let end = marks_end(input);
-    if end == 0 {
-        return page_lines::put_refused(out, 1);
-    }
-    let m = bytes_io::wide(input[0]) as usize;
+    let Some(end) = marks_end(input) else {
+        return page_lines::put_refused(out, Refusal::TooShort);
+    };
+    let m = usize::from(input[0]);
     let q = input::read(&input[end..]);
     let words = q.words;
-    let f = limit::limit(&words[..q.n], q.k, &input[3..end], m);
-    put_limited(out, f)
+    let limited = limit::limit(&words[..q.n], q.k, &input[3..end], m);
+    put_limited(out, limited)
 }

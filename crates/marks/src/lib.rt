@@ -95,10 +95,10 @@ pub fn most(b: &[i32], z: Sizes, x: &[usize; 192], marks: &[u8], plans: &[u8], a
     for p in (0..z.s).rev() {
         let n = index::count(b, z, p);
         first = first - n;
-        let c = bytes_io::wide(plans[at + p]) as usize;
+        let c = plans[at + p] as usize;
         if c < n {
             let a = lines::of_action(b, z, x, p, c);
-            let mark = bytes_io::wide(marks[first + c]) as usize;
+            let mark = marks[first + c] as usize;
             v[p] = mark + most_next(b, a, p, c, &v);
         }
     }

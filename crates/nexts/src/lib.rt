@@ -12,6 +12,7 @@ ghost use Rattle.nexts.specs.Nexts.{NextsTo, NextsOf};
 
 use book::Sizes;
 use lines::Lines;
+use sets::Set;
 
 // The next states of action c of state p.
 pub fn next_set(b: &[i32], a: Lines, p: usize, c: usize) -> u64
@@ -22,7 +23,7 @@ pub fn next_set(b: &[i32], a: Lines, p: usize, c: usize) -> u64
     let mut set: u64 = 0;
     for i in 0..r {
         let q = lines::next(b, a, p, c, i);
-        set = sets::with64(set, q as u64);
+        set = set.with(q);
     }
     set
 }
@@ -35,7 +36,7 @@ fn fill_state(b: &[i32], z: Sizes, x: &[usize; 192], p: usize, off: u8, t: &mut 
     let n = index::count(b, z, p);
     let mut j = x[p];
     for c in 0..n {
-        if !sets::has8(off, c as u8) {
+        if !off.has(c) {
             let a = lines::of_line(b, z, x, p, c, j);
             let y = next_set(b, a, p, c);
             t[8 * p + c] = y;

@@ -6,6 +6,9 @@ ghost use Rattle.model.specs.Page.{or_refused, list_page, page, most_page};
 ghost use Rattle.asked.specs.Asked.{Asked};
 ghost use Rattle.text.specs.Text.{Appended};
 ghost use Rattle.page_lines.specs.Put.{Put};
+ghost use Rattle.refusal.specs.Refusal.{number_in};
+
+use refusal::Refusal;
 
 // No page is longer.
 const MOST_PAGE: usize = 90112;
@@ -29,17 +32,17 @@ fn put_list(b: &[i32], k: usize, out: &mut [u8]) -> usize
 }
 
 // The line of a refusal, or the list: to the front of `out`; gives its length. A slice that may be too short gets nothing.
-pub fn put_page(no: u32, b: &[i32], k: usize, out: &mut [u8]) -> usize
-    requires { no ≡ 0 → Asked b.now k }
-    ensures { Put most_page (or_refused no (list_page b.now k)) out.old out.new result }
+pub fn put_page(asked: Result<(), Refusal>, b: &[i32], k: usize, out: &mut [u8]) -> usize
+    requires { number_in asked ≡ 0 → Asked b.now k }
+    ensures { Put most_page (or_refused (number_in asked) (list_page b.now k)) out.old out.new result }
 {
     if out.len() < MOST_PAGE {
         return 0;
     }
-    if no != 0 {
-        return page_lines::put_refused(out, no);
+    match asked {
+        Ok(()) => put_list(b, k, out),
+        Err(q) => page_lines::put_refused(out, q),
     }
-    put_list(b, k, out)
 }
 
 // The page of any input.
@@ -48,6 +51,6 @@ pub fn print_page(input: &[u8], out: &mut [u8]) -> usize
 {
     let q = input::read(input);
     let words = q.words;
-    let no = asked::asked_number(&words[..q.n], q.k);
-    put_page(no, &words[..q.n], q.k, out)
+    let asked = asked::asked_number(&words[..q.n], q.k);
+    put_page(asked, &words[..q.n], q.k, out)
 }

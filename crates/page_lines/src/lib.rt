@@ -6,9 +6,10 @@ ghost use Rattle.model.specs.Page.{refused_line, most_line};
 ghost use Rattle.record.specs.Listed.{Held};
 ghost use Rattle.text.specs.Text.{Appended};
 ghost use Rattle.page_lines.specs.Lines.{title_text, array_lines};
-ghost use Rattle.page_lines.specs.Put.{one_of};
+ghost use Rattle.refusal.specs.Refusal.{number_of};
 
 use record::Listing;
+use refusal::Refusal;
 
 // No refusal and no line of one answer is longer.
 pub const MOST_LINE: usize = 40;
@@ -20,26 +21,13 @@ pub fn line_buffer() -> [u8; MOST_LINE]
     [0; MOST_LINE]
 }
 
-// The text of an answer, of those of the answers 1, 2 and 3.
-pub fn put_one_of(out: &mut [u8], answer: u32, one: &[u8], two: &[u8], three: &[u8]) -> usize
-    requires { (length one.now ≤ length out.old) × (length two.now ≤ length out.old) × (length three.now ≤ length out.old) }
-    ensures { Appended out.old 0 (one_of answer one.now two.now three.now) out.new result }
-{
-    if answer == 1 {
-        return text::put_text(out, 0, one);
-    }
-    if answer == 2 {
-        return text::put_text(out, 0, two);
-    }
-    text::put_text(out, 0, three)
-}
-
-pub fn put_refused(out: &mut [u8], no: u32) -> usize
+// The line of a refusal.
+pub fn put_refused(out: &mut [u8], q: Refusal) -> usize
     requires { most_line ≤ length out.old }
-    ensures { Appended out.old 0 (refused_line no) out.new result }
+    ensures { Appended out.old 0 (refused_line (number_of q)) out.new result }
 {
     let a = text::put_text(out, 0, b"refused ");
-    let b = text::put_number(out, a, no as u64);
+    let b = text::put_number(out, a, u64::from(u32::from(q)));
     text::put_byte(out, b, 10)
 }
 

@@ -2,7 +2,7 @@
 // comes there is its reach weight: the state is reached if that is not 0, and then adds its action's cost times the weight.
 #![tactic(auto)]
 
-ghost use Rattle.std.specs.Prelude.{◌≡◌, true, ◌<◌};
+ghost use Rattle.std.specs.Prelude.{◌≡◌, ◌<◌, IfSome, is_some};
 ghost use Rattle.model.specs.Lists.{is_in};
 ghost use Rattle.model.specs.Model.{state_count, action_count, options};
 ghost use Rattle.model.specs.Policy.{allowed, is_policy};
@@ -12,13 +12,6 @@ ghost use Rattle.lines.specs.Lines.{word_of};
 ghost use Rattle.reach.specs.Weights.{first_weights, Holds};
 
 use book::{Sizes, Stage};
-
-// Is a slice of bytes a policy, and what it costs if it is.
-#[derive(Clone, Copy)]
-pub struct Judged {
-    pub is: bool,
-    pub cost: i64,
-}
 
 // Weight 1 at state 0, where every path begins.
 fn first_weights() -> [usize; 64]
@@ -44,29 +37,28 @@ fn byte_allowed(b: &[i32], z: Sizes, p: usize, reached: bool, c: usize, at: usiz
     !lines::closed_at(b, z, p, c, at)
 }
 
-// 17, and the cost: is the slice a policy of a checked book, and what does it cost?
+// 17, and the cost: what the slice costs if it is a policy of a checked book.
 #[tactic(auto, using(crate::proofs::Pass::wrong_length))]
-pub fn judge(b: &[i32], z: Sizes, plan: &[u8]) -> Judged
+pub fn judge(b: &[i32], z: Sizes, plan: &[u8]) -> Option<i64>
     requires { Checked b.now z }
-    ensures { (result.is ≡ is_policy b.now plan.now) × (is_policy b.now plan.now ≡ true → result.cost ≡ policy_cost b.now plan.now) }
+    ensures is { is_some result ≡ is_policy b.now plan.now }
+    ensures cost { IfSome result (λ c. c ≡ policy_cost b.now plan.now) }
 {
-    let s = z.s;
-    let n = plan.len();
-    if n != s {
-        return Judged { is: false, cost: 0 };
+    if plan.len() != z.s {
+        return None;
     }
     let mut w = first_weights();
     let mut t = Stage { n: 0, end: 1 };
     let mut at = z.columns;
     let mut sum: i64 = 0;
-    for p in 0..s {
+    for p in 0..z.s {
         t = book::stage_for(b, z, t, p);
         let c = plan[p] as usize;
         let f = lines::find(b, z, t, p, at, c);
         let y = w[p];
         let reached = y != 0;
         if !byte_allowed(b, z, p, reached, c, f.at) {
-            return Judged { is: false, cost: 0 };
+            return None;
         }
         if reached {
             let a = lines::at_word(b, z, p, c, f.at, t.end);
@@ -76,8 +68,5 @@ pub fn judge(b: &[i32], z: Sizes, plan: &[u8]) -> Judged
         }
         at = f.after;
     }
-    Judged {
-        is: true,
-        cost: sum,
-    }
+    Some(sum)
 }

@@ -2,26 +2,22 @@
 // one before it and valued by itself.
 #![tactic(auto)]
 
-ghost use Rattle.std.specs.Prelude.{◌≡◌, true, ◌≤◌, T, length, take};
+ghost use Rattle.std.specs.Prelude.{◌≡◌, true, ◌≤◌, T, length, take, IfOk};
 ghost use Rattle.model.specs.Model.{state_count};
 ghost use Rattle.model.specs.Policy.{is_policy, policies, has_policy};
 ghost use Rattle.model.specs.Path.{policy_cost};
 ghost use Rattle.model.specs.Order.{ranking};
-ghost use Rattle.model.specs.Calls.{most_small, is_small};
+ghost use Rattle.model.specs.Calls.{most_small, is_small, room_of, small_number, small_count, small_costs, small_plans};
 ghost use Rattle.index.specs.Index.{Indexed};
 ghost use Rattle.feasible.specs.Barred.{BarredOf};
 ghost use Rattle.best_kept.specs.Placed.{Ascends, Placed};
 ghost use Rattle.best_kept.specs.Holding.{Holds};
-ghost use Rattle.rank_small.specs.Small.{RoomFor, SmallRanked};
+ghost use Rattle.rank_small.specs.Small.{RoomFor};
+ghost use Rattle.refusal.specs.Refusal.{number_in};
 
 use book::Sizes;
-
-// The number of the first question that is answered no, or 0; and how many policies are listed, 0 where the call is refused.
-#[derive(Clone, Copy)]
-pub struct Ranking {
-    pub no: u32,
-    pub k: usize,
-}
+use refusal::Refusal;
+use sets::Set;
 
 // A book with more policies than this is refused.
 const MOST_POLICIES: usize = 4096;
@@ -99,33 +95,30 @@ fn go_through(
     n
 }
 
-// The list for any book, count and slices. A refusal writes nothing.
-pub fn rank_small(b: &[i32], k: usize, costs: &mut [i64], plans: &mut [u8]) -> Ranking
-    ensures { SmallRanked b.now k result.no result.k costs.old costs.new plans.old plans.new }
+// The list for any book, count and slices: how many policies it has. A refusal writes nothing.
+pub fn rank_small(b: &[i32], k: usize, costs: &mut [i64], plans: &mut [u8]) -> Result<usize, Refusal>
+    ensures number { number_in result ≡ small_number b.now (room_of k costs.old plans.old) }
+    ensures count { IfOk result (λ n. n ≡ small_count b.now (room_of k costs.old plans.old)) }
+    ensures costs { costs.new ≡ small_costs b.now k costs.old plans.old }
+    ensures plans { plans.new ≡ small_plans b.now k costs.old plans.old }
 {
-    let no = asked::counted_number(b, k);
-    if no != 0 {
-        return Ranking { no: no, k: 0 };
-    }
+    asked::counted_number(b, k)?;
     let z = lines::sizes(b);
-    let mut x = index::zeros();
-    index::fill_index(b, z, &mut x);
+    let x = index::index(b, z);
     let m = feasible::find_barred(b, z, &x);
-    if sets::has64(m.dead, 0) {
-        return Ranking { no: 28, k: 0 };
+    if m.dead.has(0) {
+        return Err(Refusal::NoPlan);
     }
-    let small = is_small(b, z, &x, &m.off);
-    if !small {
-        return Ranking { no: 30, k: 0 };
+    if !is_small(b, z, &x, &m.off) {
+        return Err(Refusal::ManyPlans);
     }
     if costs.len() < k {
-        return Ranking { no: 15, k: 0 };
+        return Err(Refusal::CostRoom);
     }
     let s = z.s;
     if plans.len() < k * s {
-        return Ranking { no: 16, k: 0 };
+        return Err(Refusal::PlanRoom);
     }
     let mut row = no_bytes();
-    let n = go_through(b, z, &x, &m.off, k, &mut row[..s], costs, plans);
-    Ranking { no: 0, k: n }
+    Ok(go_through(b, z, &x, &m.off, k, &mut row[..s], costs, plans))
 }

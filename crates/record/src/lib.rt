@@ -13,6 +13,9 @@ ghost use Rattle.bytes_io.specs.Slices.{written};
 ghost use Rattle.record.specs.Listed.{cost_bytes, Listed};
 ghost use Rattle.record.specs.Lengths.{head_bytes};
 ghost use Rattle.record.specs.Passed.{RecordHead, sizes_fit};
+ghost use Rattle.refusal.specs.Refusal.{number_in};
+
+use refusal::Refusal;
 
 // The ranked list of a book by value: the first n policies, each of s bytes, and their costs.
 #[derive(Drop)]
@@ -107,20 +110,20 @@ pub fn read_book(r: &[u8], out: &mut [i32])
 // ---- accepting
 
 // 19: are there 12 bytes, is W at most 4,172, and do 4 × W bytes follow?
-pub fn head_number(r: &[u8]) -> u32
-    ensures { result ≡ first_no head_questions r.now }
+pub fn head_number(r: &[u8]) -> Result<(), Refusal>
+    ensures { number_in result ≡ first_no head_questions r.now }
 {
     if r.len() < 12 {
-        return 19;
+        return Err(Refusal::RecordHead);
     }
     let w = carried_length(r);
     if 4172 < w {
-        return 19;
+        return Err(Refusal::RecordHead);
     }
     if r.len() < 12 + 4 * w {
-        return 19;
+        return Err(Refusal::RecordHead);
     }
-    0
+    Ok(())
 }
 
 // 20: is k from 1 to K and the length exact?
@@ -156,22 +159,22 @@ pub fn tail_number<'a>(
     s: usize,
     costs: &'a [i64; 64],
     plans: &'a [u8; 4096],
-) -> u32
+) -> Result<(), Refusal>
     requires { (first_no head_questions r.now ≡ 0) × Asked (carried_book r.now) (carried_k r.now) × Listed (carried_book r.now) (carried_k r.now) (record { n = n; s = s; costs = costs.now; plans = plans.now }) }
-    ensures { result ≡ first_no tail_questions r.now }
+    ensures { number_in result ≡ first_no tail_questions r.now }
 {
     if !sizes_fit(r, s) {
-        return 20;
+        return Err(Refusal::RecordLength);
     }
     if carried_count(r) != n {
-        return 21;
+        return Err(Refusal::RecordList);
     }
     let at = 12 + 4 * carried_length(r);
     if !same_costs(r, at, costs, n) {
-        return 21;
+        return Err(Refusal::RecordList);
     }
     if !bytes_io::same_bytes(r, at + 8 * n, plans, n * s) {
-        return 21;
+        return Err(Refusal::RecordList);
     }
-    0
+    Ok(())
 }

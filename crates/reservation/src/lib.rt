@@ -5,6 +5,9 @@
 ghost use Rattle.std.specs.Prelude.{◌≡◌, not, ◌||◌, ◌%◌, eqb, get_or, replicate};
 ghost use Rattle.model.specs.Questions.{first_no};
 ghost use Rattle.reservation.specs.Reservations.{held_by, committed_by, free, ask_questions, commit_questions, cancel_questions, open_for, holding, taking, answer, asking, committing, cancelling};
+ghost use Rattle.refusal.specs.Refusal.{number_in};
+
+use refusal::Refusal;
 
 // How many riders there are.
 const RIDERS: usize = 16;
@@ -66,11 +69,14 @@ fn low_byte(rank: usize) -> u8
     (rank % 256) as u8
 }
 
-// The number that each call of a rider asks for first; of cancelling it is the whole.
-fn rider_number(rider: usize) -> u32
-    ensures { result ≡ first_no cancel_questions rider }
+// 22, which each call of a rider asks first; of cancelling it is the whole.
+fn rider_number(rider: usize) -> Result<(), Refusal>
+    ensures { number_in result ≡ first_no cancel_questions rider }
 {
-    if rider >= RIDERS { 22 } else { 0 }
+    if rider >= RIDERS {
+        return Err(Refusal::Rider);
+    }
+    Ok(())
 }
 
 // The rank of a rider in a row of ranks, 0 where there is none, and for a number that is no rider's.
@@ -119,41 +125,35 @@ impl Desk {
         others == 0
     }
 
-    // The number of asking. A rank that is listed is a byte, as k is one.
-    pub fn ask_number(self, rider: usize, rank: usize) -> u32
-        ensures { result ≡ first_no (ask_questions self rank) rider }
+    // The questions of asking. A rank that is listed is a byte, as k is one.
+    pub fn ask_number(self, rider: usize, rank: usize) -> Result<(), Refusal>
+        ensures { number_in result ≡ first_no (ask_questions self rank) rider }
     {
-        let no = rider_number(rider);
-        if no != 0 {
-            return no;
-        }
+        rider_number(rider)?;
         if rank < 1 {
-            return 23;
+            return Err(Refusal::Rank);
         }
         if rank > self.k as usize {
-            return 23;
+            return Err(Refusal::Rank);
         }
         if self.committed_by(rider) != 0 {
-            return 24;
+            return Err(Refusal::Taken);
         }
         let free = self.is_free(rider as u8, rank as u8);
-        if free { 0 } else { 24 }
+        if free { Ok(()) } else { Err(Refusal::Taken) }
     }
 
-    // The number of committing.
-    pub fn commit_number(self, rider: usize) -> u32
-        ensures { result ≡ first_no (commit_questions self) rider }
+    // The questions of committing.
+    pub fn commit_number(self, rider: usize) -> Result<(), Refusal>
+        ensures { number_in result ≡ first_no (commit_questions self) rider }
     {
-        let no = rider_number(rider);
-        if no != 0 {
-            return no;
-        }
-        if self.held_by(rider) == 0 { 24 } else { 0 }
+        rider_number(rider)?;
+        if self.held_by(rider) == 0 { Err(Refusal::Taken) } else { Ok(()) }
     }
 
-    // The number of cancelling.
-    pub fn cancel_number(self, rider: usize) -> u32
-        ensures { result ≡ first_no cancel_questions rider }
+    // The question of cancelling.
+    pub fn cancel_number(self, rider: usize) -> Result<(), Refusal>
+        ensures { number_in result ≡ first_no cancel_questions rider }
     {
         rider_number(rider)
     }
@@ -180,43 +180,43 @@ impl Desk {
     }
 
     // A refused call changes nothing.
-    fn answer(self, no: u32, next: Desk) -> Answer
-        ensures { result ≡ answer no next self }
+    fn answer(self, asked: Result<(), Refusal>, next: Desk) -> Answer
+        ensures { result ≡ answer (number_in asked) next self }
     {
-        if no != 0 {
-            return Answer { no: no, desk: self };
+        match asked {
+            Ok(()) => Answer { no: 0, desk: next },
+            Err(q) => Answer { no: q.into(), desk: self },
         }
-        Answer { no: 0, desk: next }
     }
 
     // A granted ask drops the rider's earlier hold.
     pub fn asking(self, rider: usize, rank: usize) -> Answer
         ensures { result ≡ asking self rider rank }
     {
-        let no = self.ask_number(rider, rank);
-        self.answer(no, self.holding(rider, low_byte(rank)))
+        let asked = self.ask_number(rider, rank);
+        self.answer(asked, self.holding(rider, low_byte(rank)))
     }
 
     // The rank held becomes the rider's.
     pub fn committing(self, rider: usize) -> Answer
         ensures { result ≡ committing self rider }
     {
-        let no = self.commit_number(rider);
-        self.answer(no, self.taking(rider))
+        let asked = self.commit_number(rider);
+        self.answer(asked, self.taking(rider))
     }
 
     // A hold is dropped, a commitment never.
     pub fn cancelling(self, rider: usize) -> Answer
         ensures { result ≡ cancelling self rider }
     {
-        let no = rider_number(rider);
-        self.answer(no, self.holding(rider, 0))
+        let asked = rider_number(rider);
+        self.answer(asked, self.holding(rider, 0))
     }
 
-    // Opening, of the number and the k that accepting the record gives.
-    pub fn opening(self, no: u32, k: u8) -> Answer
-        ensures { result ≡ answer no (open_for k) self }
+    // Opening, by how the record's questions were answered and its k.
+    pub fn opening(self, asked: Result<(), Refusal>, k: u8) -> Answer
+        ensures { result ≡ answer (number_in asked) (open_for k) self }
     {
-        self.answer(no, open_for(k))
+        self.answer(asked, open_for(k))
     }
 }

@@ -1,12 +1,11 @@
 -- What the functions that read a table ask and give.
 -- Assumes nothing.
-use Rattle.std.specs.Prelude.{◌≡◌, Bool, true, ◌&&◌, ℕ, ◌+◌, ◌*◌, ◌≤◌, ◌<◌, length}
+use Rattle.std.specs.Prelude.{◌≡◌, Bool, true, ◌&&◌, ℕ, ◌+◌, ◌*◌, ◌≤◌, ◌<◌, length, is_some, IfSome, Option}
 use Rattle.model.specs.Lists.{all}
 use Rattle.model.specs.Model.{Words}
 use Rattle.reward_table.specs.Table.{table_scale, table_horizon, table_states, table_first, table_lines, table_count, table_state_line, table_action_line}
 use Rattle.reward_table.specs.Table.{some_branch, lines_fit, weights_add, reward_inside}
 use Rattle.reward_table.specs.declared.Table.{Table}
-use Rattle.reward_table.specs.declared.Walk.{Walk}
 
 -- what question 25 leaves
 pub record Given (t : Words) : Type 0 where
@@ -40,13 +39,13 @@ unfoldable pub states_given : Words → ℕ → Bool
 states_given t end = all end (state_given t)
 
 -- a walk over the actions of state s
-pub record Walked (t : Words) (s : ℕ) (w : Walk) : Type 0 where
-  pub ok_is : w.ok ≡ state_given t s
-  pub at-is : w.ok ≡ true → w.at ≡ table_state_line t (s + 1)
-  pub small : w.at ≤ 2048
+pub record Walked (t : Words) (s : ℕ) (w : Option ℕ) : Type 0 where
+  pub ok_is : is_some w ≡ state_given t s
+  pub at-is : IfSome w (λ at. at ≡ table_state_line t (s + 1))
+  pub small : IfSome w (λ at. at ≤ 2048)
 
 -- over the actions of the states below `end`
-pub record WalkedTo (t : Words) (end : ℕ) (w : Walk) : Type 0 where
-  pub ok_is : w.ok ≡ states_given t end
-  pub at-is : w.ok ≡ true → w.at ≡ table_state_line t end
-  pub small : w.at ≤ 2048
+pub record WalkedTo (t : Words) (end : ℕ) (w : Option ℕ) : Type 0 where
+  pub ok_is : is_some w ≡ states_given t end
+  pub at-is : IfSome w (λ at. at ≡ table_state_line t end)
+  pub small : IfSome w (λ at. at ≤ 2048)

@@ -6,6 +6,9 @@ ghost use Rattle.model.specs.Model.{word};
 ghost use Rattle.model.specs.Questions.{first_no, inside};
 ghost use Rattle.reward_table.specs.Table.{table_states, table_state_line, sizes_given, lines_given, table_questions, sum_z};
 ghost use Rattle.reward_table.specs.Read.{Given, TableRead, entry_given, Walked, WalkedTo};
+ghost use Rattle.refusal.specs.Refusal.{number_in};
+
+use refusal::Refusal;
 
 // The sizes that a table begins with, D, H, n, the first state and L, and the word at which its left column begins.
 #[derive(Clone, Copy)]
@@ -16,13 +19,6 @@ pub struct Table {
     pub first: usize,
     pub l: usize,
     pub columns: usize,
-}
-
-// How far a walk over the actions has come: is each of them as asked, and the line after the last.
-#[derive(Clone, Copy)]
-pub struct Walk {
-    pub ok: bool,
-    pub at: usize,
 }
 
 // 25
@@ -121,36 +117,32 @@ fn entry_given(t: &[i32], z: Table, j: usize) -> bool
     within(sum, d, d)
 }
 
-// The walk over the actions of state s, whose first line is line `start`.
-pub fn walk_state(t: &[i32], z: Table, s: usize, start: usize) -> Walk
+// The walk over the actions of state s, whose first line is line `start`: the line after the last, if each of them is as asked.
+pub fn walk_state(t: &[i32], z: Table, s: usize, start: usize) -> Option<usize>
     requires { Given t.now × TableRead t.now z × (s < table_states t.now) × (start ≡ table_state_line t.now s) × (start ≤ 2048) }
     ensures { Walked t.now s result }
 {
     let count = book::size_at(t, 5 + s);
     let mut at = start;
-    for c in 0..count {
+    for _c in 0..count {
         if !entry_given(t, z, at) {
-            return Walk { ok: false, at: 0 };
+            return None;
         }
         at = at + 1 + book::size_at(t, z.columns + at);
     }
-    Walk { ok: true, at: at }
+    Some(at)
 }
 
 // The walk over the actions of the states below `end`.
-pub fn walk_to(t: &[i32], z: Table, end: usize) -> Walk
+pub fn walk_to(t: &[i32], z: Table, end: usize) -> Option<usize>
     requires { Given t.now × TableRead t.now z × (end ≤ table_states t.now) }
     ensures { WalkedTo t.now end result }
 {
     let mut at: usize = 0;
     for s in 0..end {
-        let w = walk_state(t, z, s, at);
-        if !w.ok {
-            return Walk { ok: false, at: 0 };
-        }
-        at = w.at;
+        at = walk_state(t, z, s, at)?;
     }
-    Walk { ok: true, at: at }
+    Some(at)
 }
 
 // 26
@@ -162,11 +154,9 @@ fn lines_given(t: &[i32], z: Table) -> bool
     if !book::words_in(t, 5, n, 1, 8) {
         return false;
     }
-    let w = walk_to(t, z, n);
-    if !w.ok {
+    let Some(at) = walk_to(t, z, n) else {
         return false;
-    }
-    let at = w.at;
+    };
     if at + n != z.l {
         return false;
     }
@@ -177,16 +167,16 @@ fn lines_given(t: &[i32], z: Table) -> bool
     book::words_in(t, closing + z.l, n, -100000, 100000)
 }
 
-// The number of the first of the questions 25 and 26 that is answered no, or 0.
-pub fn table_number(t: &[i32]) -> u32
-    ensures { result ≡ first_no table_questions t.now }
+// The questions 25 and 26.
+pub fn table_number(t: &[i32]) -> Result<(), Refusal>
+    ensures { number_in result ≡ first_no table_questions t.now }
 {
     if !sizes_given(t) {
-        return 25;
+        return Err(Refusal::TableSizes);
     }
     let z = read_table(t);
     if !lines_given(t, z) {
-        return 26;
+        return Err(Refusal::TableLines);
     }
-    0
+    Ok(())
 }

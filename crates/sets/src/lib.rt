@@ -1,58 +1,66 @@
-// Sets of numbers as the bits of a number: of up to 8 actions in a byte, of up to 64 states in 64 bits.
+// Sets of numbers as the bits of a number.
 #![tactic(auto)]
 
-ghost use Rattle.std.specs.Prelude.{◌≡◌, ◌<◌};
+ghost use Rattle.std.specs.Prelude.{◌≡◌, ℕ, ◌<◌};
 ghost use Rattle.sets.specs.Sets.{has, with, union};
 
-// Is action c in the set?
-pub fn has8(set: u8, c: u8) -> bool
-    requires { c < 8 }
-    ensures { result ≡ has set c }
-{
-    (set >> c) % 2 == 1
+/// A number whose bits are a set: bit i says whether i is in it.
+pub trait Set: Copy {
+    // the number
+    ghost bits: { Self → ℕ };
+
+    // how many bits it has
+    ghost places: { ℕ };
+
+    // Is i in the set?
+    fn has(self, i: usize) -> bool
+        requires { i < places }
+        ensures { result ≡ has (bits self) i };
+
+    // The set with i.
+    fn with(self, i: usize) -> Self
+        requires { i < places }
+        ensures { bits result ≡ with (bits self) i };
+
+    // The numbers of either set.
+    fn union(self, other: Self) -> Self
+        ensures { bits result ≡ union (bits self) (bits other) };
 }
 
-// The set with action c.
-pub fn with8(set: u8, c: u8) -> u8
-    requires { c < 8 }
-    ensures { result ≡ with set c }
-{
-    set | (1 << c)
+// The actions of a state, of which there are at most 8.
+impl Set for u8 {
+    ghost bits = { λ set. set };
+
+    ghost places = { 8 };
+
+    fn has(self, i: usize) -> bool {
+        (self >> i) % 2 == 1
+    }
+
+    fn with(self, i: usize) -> u8 {
+        self | (1u8 << i)
+    }
+
+    fn union(self, other: u8) -> u8 {
+        self | other
+    }
 }
 
-// The actions of either set.
-pub fn union8(a: u8, b: u8) -> u8
-    ensures { result ≡ union a b }
-{
-    a | b
-}
+// The states of a model, of which there are at most 64.
+impl Set for u64 {
+    ghost bits = { λ set. set };
 
-// An action, or a set of actions, in a wider number.
-pub fn wide8(x: u8) -> usize
-    ensures { result ≡ x }
-{
-    x as usize
-}
+    ghost places = { 64 };
 
-// Is state q in the set?
-pub fn has64(set: u64, q: u64) -> bool
-    requires { q < 64 }
-    ensures { result ≡ has set q }
-{
-    (set >> q) % 2 == 1
-}
+    fn has(self, i: usize) -> bool {
+        (self >> i) % 2 == 1
+    }
 
-// The set with state q.
-pub fn with64(set: u64, q: u64) -> u64
-    requires { q < 64 }
-    ensures { result ≡ with set q }
-{
-    set | (1 << q)
-}
+    fn with(self, i: usize) -> u64 {
+        self | (1u64 << i)
+    }
 
-// The states of either set.
-pub fn union64(a: u64, b: u64) -> u64
-    ensures { result ≡ union a b }
-{
-    a | b
+    fn union(self, other: u64) -> u64 {
+        self | other
+    }
 }

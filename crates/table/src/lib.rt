@@ -12,6 +12,7 @@ ghost use Rattle.feasible.specs.Barred.{Leaves, BarredOf};
 ghost use Rattle.table.specs.Table.{Chosen, better, row_of, RowBounded, Filled, TableOf};
 
 use book::Sizes;
+use sets::Set;
 
 // Is entry i below entry k?
 fn below(q: &[i64; 512], i: usize, k: usize) -> bool
@@ -26,7 +27,7 @@ fn best_of_two(q: &[i64; 512], p: usize, best: usize, c: usize, mask: u8) -> usi
     requires { (p < 64) × (c < 8) × Chosen best }
     ensures { result ≡ cond (has mask c) best (better (row_of q.now p) best c) }
 {
-    if sets::has8(mask, c as u8) {
+    if mask.has(c) {
         return best;
     }
     if best == 255 {
@@ -67,7 +68,7 @@ fn fill_row(
     let unit = costs::unit(b, z, x, p);
     let mut j = x[p];
     for c in 0..n {
-        if !sets::has8(off, c as u8) {
+        if !off.has(c) {
             let a = lines::of_line(b, z, x, p, c, j);
             let y = costs::action_cost(b, a, p, c, unit, v);
             q[8 * p + c] = y;

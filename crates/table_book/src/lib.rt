@@ -50,9 +50,9 @@ pub fn measure(t: &[i32], z: Table) -> Sizes
     requires { Passed t.now z }
     ensures { Made t.now result }
 {
-    let a = reward_table::walk_to(t, z, z.first);
-    let b = reward_table::walk_state(t, z, z.first, a.at);
-    sizes_of(z.h, z.n, a.at, b.at, z.l - z.n)
+    let from = reward_table::walk_to(t, z, z.first).unwrap();
+    let to = reward_table::walk_state(t, z, z.first, from).unwrap();
+    sizes_of(z.h, z.n, from, to, z.l - z.n)
 }
 
 // ---- runs of words, written from index `at` on

@@ -5,6 +5,8 @@ ghost use Rattle.std.specs.Prelude.{◌≡◌, ◌≤◌, length};
 ghost use Rattle.page_lines.specs.Put.{Put};
 ghost use Rattle.table_input.specs.Bytes.{most_table, most_book, book_bytes};
 
+use refusal::Refusal;
+
 // The bytes of the input that count: the longest table and one word more.
 const MOST_TABLE: usize = 16472;
 
@@ -43,18 +45,19 @@ fn convert_counted(r: &[u8], out: &mut [u8]) -> usize
     ensures { Put most_book (book_bytes r.now) out.old out.new result }
 {
     if r.len() % 4 != 0 {
-        return page_lines::put_refused(out, 25);
+        return page_lines::put_refused(out, Refusal::TableSizes);
     }
     let n = r.len() / 4;
     let mut words = no_words();
     bytes_io::read_words(r, 0, n, &mut words);
     let mut book = no_book();
-    let c = convert::convert(&words[..n], &mut book);
-    if c.no != 0 {
-        return page_lines::put_refused(out, c.no);
+    match convert::convert(&words[..n], &mut book) {
+        Ok(length) => {
+            bytes_io::write_words(out, 0, &book[..length]);
+            4 * length
+        }
+        Err(q) => page_lines::put_refused(out, q),
     }
-    bytes_io::write_words(out, 0, &book[..c.length]);
-    4 * c.length
 }
 
 // The bytes of the book of any input, or the line of its refusal, to the front of `out`; gives their length. A slice that may be too short gets nothing.

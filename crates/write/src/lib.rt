@@ -1,38 +1,30 @@
 // Writing a record: the questions 1 to 14, 28 and 18, and the record's bytes at the front of the lent slice.
 #![tactic(auto)]
 
-ghost use Rattle.std.specs.Prelude.{◌≡◌, length};
+ghost use Rattle.std.specs.Prelude.{◌≡◌, length, IfOk};
 ghost use Rattle.model.specs.Calls.{write_number, write_length, write_record};
+ghost use Rattle.refusal.specs.Refusal.{number_in};
 
-// The number of the first question that is answered no, or 0; and the record's length, 0 where the call is refused.
-#[derive(Clone, Copy)]
-pub struct Written {
-    pub no: u32,
-    pub length: usize,
-}
+use refusal::Refusal;
 
-// The record of any book and count. A refusal writes nothing.
-pub fn write(b: &[i32], k: usize, out: &mut [u8]) -> Written
-    ensures { (result.no ≡ write_number b.now k (length out.old)) × (result.length ≡ write_length b.now k (length out.old)) × (out.new ≡ write_record b.now k out.old) }
+// The record of any book and count: its length. A refusal writes nothing.
+pub fn write(b: &[i32], k: usize, out: &mut [u8]) -> Result<usize, Refusal>
+    ensures number { number_in result ≡ write_number b.now k (length out.old) }
+    ensures long { IfOk result (λ n. n ≡ write_length b.now k (length out.old)) }
+    ensures record { out.new ≡ write_record b.now k out.old }
 {
-    let no = asked::counted_number(b, k);
-    if no != 0 {
-        return Written { no: no, length: 0 };
-    }
+    asked::counted_number(b, k)?;
     let z = book::read_sizes(b);
     let mut costs = listing::no_costs();
     let mut plans = listing::no_plans();
     let n = listing::fill(b, k, &mut costs, &mut plans);
     if n == 0 {
-        return Written { no: 28, length: 0 };
+        return Err(Refusal::NoPlan);
     }
     let long = 12 + 4 * b.len() + 8 * n + n * z.s;
     if out.len() < long {
-        return Written { no: 18, length: 0 };
+        return Err(Refusal::RecordRoom);
     }
     record::put_record(b, k, n, z.s, &costs, &plans, out);
-    Written {
-        no: 0,
-        length: long,
-    }
+    Ok(long)
 }

@@ -3,8 +3,8 @@
 use mathlib.Core.Path.{ap}
 use lib.Bits.{bit_or}
 use Rattle.sets.specs.Sets.{with, one_shifted}
-use Rattle.sets.proofs.with8.Goals as goal
+use Rattle.sets.proofs.U8Set.with.Goals as goal
 
 pub returns : goal.returns
 unfolding with
-returns c = ap (bit_or c.args.set) (one_shifted 8 c.args.c c.requires)
+returns c = ap (bit_or c.args.self) (one_shifted 8 c.args.i c.requires)
