@@ -25,8 +25,7 @@ pub fn spread_lines(b: &[i32], a: Lines, p: usize, c: usize, y: usize, w: &mut [
     requires { LinesOf b.now p c a × (length w.old ≡ 64) × Room y (action b.now p c).transitions w.old }
     ensures { Holds w.new (spread y (action b.now p c).transitions (weight_at w.old)) }
 {
-    let r = a.r;
-    for i in 0..r {
+    for i in 0..a.r {
         let q = lines::next(b, a, p, c, i);
         let weight = lines::weight(b, a, p, c, i);
         w[q] = w[q] + y * weight;
@@ -55,9 +54,8 @@ pub fn reach_weights(b: &[i32], z: Sizes, x: &[usize; 192], plan: &[u8], w: &mut
     requires { Indexed b.now z x.now × (is_policy b.now plan.now ≡ true) }
     ensures { WeightsOf b.now plan.now w.new }
 {
-    let s = z.s;
     first_weights(w);
-    for p in 0..s {
+    for p in 0..z.s {
         let c = plan[p] as usize;
         if c != 255 {
             let y = w[p];

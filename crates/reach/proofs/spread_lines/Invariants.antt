@@ -1,6 +1,5 @@
 -- y is spread over the first i transitions.
 -- Assumes nothing.
-use Prim.Native.Nat.{◌-◌, ◌≤◌}
 use lib.ListN.{drop}
 use Rattle.model.specs.Model.{action}
 use Rattle.splits.specs.Reach.{spread}
@@ -10,4 +9,4 @@ use Rattle.reach.proofs.spread_lines.Given as goal
 
 abbrev pub invariant-loop-i : goal.invariant-loop-i
 invariant-loop-i l =
-    (l.i ≤ l.r) × ToSpread l.y (spread l.y (action l.b l.p l.c).transitions (weight_at l.initial.w)) (drop l.i (action l.b l.p l.c).transitions) l.w
+    ToSpread l.y (spread l.y (action l.b l.p l.c).transitions (weight_at l.initial.w)) (drop l.i (action l.b l.p l.c).transitions) l.w
