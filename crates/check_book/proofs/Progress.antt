@@ -2,7 +2,6 @@
 -- Assumes nothing.
 use mathlib.Core.Path.{◌≡◌, refl, sym, ap, ap₂, ◌∙◌}
 use mathlib.Core.Bool.{Bool, true, false, ◌&&◌}
-use mathlib.Core.Logic.{inl, inr}
 use Prim.Native.Nat.{ℕ, ◌+◌, ◌<◌}
 use native.Mathlib.Numerals.{add-one}
 use native.Mathlib.Omega.{arith}
@@ -14,7 +13,10 @@ use Rattle.questions.specs.Ranges.{all_step, all_fails}
 use Rattle.book.specs.declared.Sizes.{Sizes}
 use Rattle.actions.specs.Action.{code, cost_up_to, action_number}
 use Rattle.actions.proofs.Steps.{fit_bound}
-use Rattle.check_book.specs.Walk.{lowest, partly, Progress, Walked, walk_number}
+use Rattle.std.specs.Prelude.{Ok}
+use Rattle.refusal.specs.declared.Refusal.{Refusal}
+use Rattle.refusal.specs.Refusal.{number_of, number_in}
+use Rattle.check_book.specs.Walk.{lowest, partly, Progress, Stopped, walk_number}
 use Rattle.check_book.specs.declared.Walk.{Walk}
 use Rattle.check_book.proofs.Steps.{code_both}
 
@@ -25,15 +27,6 @@ and_assoc false b c = refl
 and_end : (a : Bool) → (a && true) ≡ a
 and_end true = refl
 and_end false = refl
-
--- only question 9 gives 9
-nine_is : (a b c d e : Bool) → code a b c d e ≡ 9 → a ≡ false
-nine_is false b c d e h = refl
-nine_is true false c d e h = absurd (omega arith)
-nine_is true true false d e h = absurd (omega arith)
-nine_is true true true false e h = absurd (omega arith)
-nine_is true true true true false h = absurd (omega arith)
-nine_is true true true true true h = absurd (omega arith)
 
 module _ (ws : Words) (p c : ℕ) where
   -- one action more
@@ -55,7 +48,7 @@ module _ (ws : Words) (p c : ℕ) where
   j = action_line ws p c
 
   module _ (z : Sizes) (most : ℕ) (w : Walk) (h : Progress ws z most p c w) where
-    pub step : branches_allowed ws n j ≡ true → (x : ℕ) → x ≡ action_number most ws n j → (r : Walk) → r.no ≡ lowest w.no x
+    pub step : branches_allowed ws n j ≡ true → (x : ℕ) → x ≡ action_number most ws n j → (r : Walk) → number_in r.answer ≡ lowest (number_in w.answer) x
         → r.at ≡ w.at + 1 + branches ws j → Progress ws z most p (c + 1) r
     unfolding action_number line_after
     step fits x e r a b =
@@ -101,7 +94,7 @@ module _ (ws : Words) (z : Sizes) (most p : ℕ) where
         inside = rw line_next h.inside;
       }
 
-pub begin : (ws : Words) (z : Sizes) (most : ℕ) → Progress ws z most 0 0 (record { no = 0; at = z.columns })
+pub begin : (ws : Words) (z : Sizes) (most : ℕ) → Progress ws z most 0 0 (record { answer = Ok tt; at = z.columns })
 unfolding partly action_line skip state_line
 begin ws z most = record { fit = refl; no_is = refl; at-is = omega arith; inside = omega arith }
 
@@ -113,7 +106,7 @@ module _ (ws : Words) (z : Sizes) (most : ℕ) where
     unfolding partly every_action
     whole test = and_end _
 
-    pub finish : w.at ≡ z.columns + line_count ws → w.no ≡ walk_number most ws
+    pub finish : w.at ≡ z.columns + line_count ws → number_in w.answer ≡ walk_number most ws
     unfolding walk_number lines_allowed action_line skip
     finish e =
         h.no_is
@@ -132,19 +125,7 @@ module _ (ws : Words) (z : Sizes) (most : ℕ) where
     too_short e =
         rw (sym (whole branches_allowed), h.fit, ne_eqb (state_line ws (state_count ws)) (line_count ws) (λ k. e (omega (arith, h.at-is, k))))
 
-  stopped : every_action branches_allowed ws ≡ false → 9 ≡ walk_number most ws
+  -- a walk that has stopped
+  pub stopped_at : (q : Refusal) → Stopped ws q → number_of q ≡ walk_number most ws
   unfolding walk_number lines_allowed
-  stopped u = rw u
-
-  -- what 9 tells of a walk
-  module _ (p c : ℕ) (w : Walk) where
-    pub stopped_at : Walked ws z most p c w → w.no ≡ 9 → 9 ≡ walk_number most ws
-    stopped_at (inl h) e =
-        let t = nine_is true (partly cost_allowed ws p c) (partly nexts_allowed ws p c) (partly weights_allowed ws p c) (partly (cost_up_to most) ws p c) (sym h.no_is ∙ e) in
-        let z : ◌≡◌ {A = ℕ} 0 1 = cc in
-        absurd (omega arith)
-    stopped_at (inr s) e = stopped s.unfit
-
-    pub goes_on : Walked ws z most p c w → (w.no ≡ 9 → ⊥) → Progress ws z most p c w
-    goes_on (inl h) e = h
-    goes_on (inr s) e = absurd (e s.no_is)
+  stopped_at q s = s.no_is ∙ rw (s.unfit)

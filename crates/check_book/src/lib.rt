@@ -29,9 +29,7 @@ fn lower(x: Result<(), Refusal>, y: Result<(), Refusal>) -> Result<(), Refusal>
     match (x, y) {
         (Ok(()), _) => y,
         (_, Ok(())) => x,
-        (Err(a), Err(b)) => {
-            if u32::from(b) < u32::from(a) { y } else { x }
-        }
+        (Err(a), Err(b)) => { if u32::from(b) < u32::from(a) { y } else { x } }
     }
 }
 

@@ -2,7 +2,7 @@
 -- Assumes nothing.
 use mathlib.Core.Path.{◌≡◌}
 use mathlib.Core.Bool.{true}
-use Prim.Native.Nat.{◌-◌, ◌≤◌}
+use Prim.Native.Nat.{◌≤◌}
 use Rattle.model.specs.Lists.{all}
 use Rattle.actions.specs.Action.{prev_at, next_allowed}
 use Rattle.actions.proofs.nexts_allowed.Given as goal

@@ -1,6 +1,6 @@
 -- The walk has passed every action of the states below p, and t is the stage of the last of them.
 -- Assumes nothing.
-use Prim.Native.Nat.{◌-◌, ◌≤◌}
+use Prim.Native.Nat.{◌≤◌}
 use Rattle.model.specs.Model.{state_count}
 use Rattle.book.specs.Read.{StageNear}
 use Rattle.check_book.specs.Walk.{Progress}

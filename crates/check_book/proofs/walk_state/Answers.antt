@@ -1,6 +1,5 @@
 -- Assumes nothing.
 use mathlib.Core.Path.{◌≡◌, refl, sym, ap, ap₂, ◌∙◌, subst}
-use mathlib.Core.Logic.{inl, inr}
 use Prim.Native.Nat.{ℕ, ◌+◌, ◌-◌, ◌≤◌, ◌<◌}
 use native.Mathlib.Omega.{arith}
 use lib.IntN.{nat_abs}
@@ -15,7 +14,7 @@ use Rattle.check_book.proofs.walk_state.Goals as goal
 use Rattle.check_book.proofs.walk_state.Goals.{At-loop-c}
 
 pub loop-c-init : goal.loop-c-init
-loop-c-init c = (omega arith, c.requires.3)
+loop-c-init c = c.requires.3
 
 -- the action that the walk has come to
 module _ (l : goal.At-loop-c) where
@@ -34,17 +33,17 @@ module _ (l : goal.At-loop-c) where
   n = stage ws l.args.p
 
   abbrev j : ℕ
-  j = action_line ws l.args.p l.loop-c.c
+  j = action_line ws l.args.p l.loop-c._c
 
   -- its line by its word
   line : at - l.args.z.columns ≡ j
-  line = omega (arith, l.loop-c.invariant.1.at-is)
+  line = omega (arith, l.loop-c.invariant.at-is)
 
   from : l.args.z.columns ≤ at
-  from = omega (arith, l.loop-c.invariant.1.at-is)
+  from = omega (arith, l.loop-c.invariant.at-is)
 
   to : at ≤ l.args.z.columns + l.args.z.l
-  to = omega (arith, l.loop-c.invariant.1.at-is, l.loop-c.invariant.1.inside, l.requires.1.l_is)
+  to = omega (arith, l.loop-c.invariant.at-is, l.loop-c.invariant.inside, l.requires.1.l_is)
 
   within : at < length ws
   within = omega (arith, to, l.requires.1.l_is, l.requires.1.columns_is, l.requires.0.exact, l.requires.0.l_low)
@@ -74,20 +73,19 @@ action_fits-requires c =
 pub returns-then-not-action_fits : goal.returns-then-not-action_fits
 returns-then-not-action_fits c =
     let l = (goal.at.returns-then-not-action_fits c).At-loop-c in
-    inr
-    (record {
+    record {
       no_is = refl;
       unfit =
-          stop (ws l) c.args.p c.loop-c.c c.requires.2.state (omega (arith, count l))
+          stop (ws l) c.args.p c.loop-c._c c.requires.2.state (omega (arith, count l))
           (sym (c.action_fits.ensures ∙ fit l) ∙ c.if-not-action_fits.true);
-    })
+    }
 
 pub size_at-r-requires : goal.size_at-r-requires
 size_at-r-requires c = within (goal.at.size_at-r-requires c).At-loop-c
 
-pub action_number-no-requires : goal.action_number-no-requires
-action_number-no-requires c =
-    let l = (goal.at.action_number-no-requires c).At-loop-c in (
+pub action_number-answer-requires : goal.action_number-answer-requires
+action_number-answer-requires c =
+    let l = (goal.at.action_number-answer-requires c).At-loop-c in (
       c.requires.0,
       c.requires.1,
       record {
@@ -108,16 +106,14 @@ overflow_add-w-in-loop-c c =
 
 pub loop-c-preserved : goal.loop-c-preserved
 loop-c-preserved c =
-    let l = (goal.at.loop-c-preserved c).At-loop-c in (
-      omega arith,
-      step (ws l) c.args.p c.loop-c.c c.args.z c.args.q.most c.loop-c.w c.loop-c.invariant.1
-          (sym (c.action_fits.ensures ∙ fit l) ∙ c.if-not-action_fits.false)
-          c.action_number-no.result (c.action_number-no.ensures ∙ number l) _ c.lower.ensures
-          (ap (λ k. at l + 1 + k) (read l c.size_at-r.result c.size_at-r.ensures.is ∙ ap (branches (ws l)) (line l))),
-    )
+    let l = (goal.at.loop-c-preserved c).At-loop-c in
+    step (ws l) c.args.p c.loop-c._c c.args.z c.args.q.most c.loop-c.w c.loop-c.invariant
+    (sym (c.action_fits.ensures ∙ fit l) ∙ c.if-not-action_fits.false)
+    _ (c.action_number-answer.ensures ∙ number l) _ c.lower.ensures
+    (ap (λ k. at l + 1 + k) (read l c.size_at-r.result c.size_at-r.ensures.is ∙ ap (branches (ws l)) (line l)))
 
 pub returns : goal.returns
 returns c =
     let l = (goal.at.returns c).At-loop-c in
-    let e : c.loop-c.c ≡ action_count (ws l) c.args.p = omega (arith, count l) in
-    inl (subst (λ n. Progress (ws l) c.args.z c.args.q.most c.args.p n c.loop-c.w) e c.loop-c.invariant.1)
+    let e : c.loop-c._c ≡ action_count (ws l) c.args.p = omega (arith, count l) in
+    subst (λ n. Progress (ws l) c.args.z c.args.q.most c.args.p n c.loop-c.w) e c.loop-c.invariant
