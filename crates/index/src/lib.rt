@@ -50,20 +50,19 @@ pub fn zeros() -> [usize; 192]
     [0; 192]
 }
 
-// Fills x for each state p: at p its first line, at 64 + p the first state of the next stage, at 128 + p the stages still to come.
+// Fills x for each state p: at p its first line, at 64 + p the first state of the next stage, at 128 + p the stages still to come. Three parts of one array
+// of numbers and no array of structs: the definition IndexTo, which the contracts of every pass rest on, has it so.
 pub fn fill_index(b: &[i32], z: Sizes, x: &mut [usize; 192])
     requires { Checked b.now z × (length x.old ≡ 192) }
     ensures { Indexed b.now z x.new }
 {
-    let h = z.h;
-    let s = z.s;
     let mut t = Stage { n: 0, end: 1 };
     let mut at: usize = 0;
-    for p in 0..s {
+    for p in 0..z.s {
         t = book::stage_for(b, z, t, p);
         x[p] = at;
         x[64 + p] = t.end;
-        x[128 + p] = h - t.n;
+        x[128 + p] = z.h - t.n;
         let n = count(b, z, p);
         at = action_line(b, z, p, at, n);
     }
@@ -74,7 +73,7 @@ pub fn index(b: &[i32], z: Sizes) -> [usize; 192]
     requires { Checked b.now z }
     ensures { Indexed b.now z result }
 {
-    let mut x = zeros();
+    let mut x = [0; 192];
     fill_index(b, z, &mut x);
     x
 }

@@ -5,12 +5,6 @@ use Rattle.accepted.specs.Facts.{accepted}
 use Rattle.book.proofs.Columns.{count_is}
 use Rattle.index.proofs.count.Goals as goal
 
-pub overflow_add-z : goal.overflow_add-z
-overflow_add-z c = let s = (accepted c.args.b.now c.requires.0.ok).sizes in omega arith
-
-pub overflow_add-z-2 : goal.overflow_add-z-2
-overflow_add-z-2 c = let s = (accepted c.args.b.now c.requires.0.ok).sizes in omega arith
-
 pub size_at-requires : goal.size_at-requires
 size_at-requires c = let s = (accepted c.args.b.now c.requires.0.ok).sizes in omega arith
 

@@ -7,6 +7,9 @@ use lib.Dec.{T}
 use lib.IntN.{ℤ, pos, negsuc, nat_abs}
 use lib.Signed.{mag, non_neg}
 use lib.ListN.{get_or}
+use mir.Syntax.{w32}
+use mir.Val.{SFits}
+use Rattle.std.proofs.Common.{rules}
 use Rattle.model.specs.Model.{word}
 use Rattle.book.proofs.Words.{read32, abs_mag}
 use Rattle.index.specs.Index.{NotBelow0}
@@ -22,12 +25,13 @@ small z h = omega (arith, abs_mag z)
 pub overflow_cast-result : goal.overflow_cast-result
 unfolding word
 overflow_cast-result c =
-    let s = c in
-    let z = get_or s.args.b.now s.args.i (pos 0) in
-    rw (read32 z c.result-1.given) (sign z s.requires.1, omega (arith, small z c.result-1.given))
+    let z = get_or c.args.b.now c.args.i (pos 0) in
+    let f : SFits w32 z = search rules in
+    rw (read32 z f.sfits) (sign z c.requires.1, omega (arith, small z f.sfits))
 
 pub returns : goal.returns
 unfolding word
 returns c =
     let z = get_or c.args.b.now c.args.i (pos 0) in
-    rw (read32 z c.result-1.given) (record { is = refl; small = small z c.result-1.given })
+    let f : SFits w32 z = search rules in
+    rw (read32 z f.sfits) (record { is = refl; small = small z f.sfits })
