@@ -5,7 +5,11 @@ use mathlib.Core.Bool.{true, false}
 use Prim.Native.Nat.{ℕ, zero, suc, ◌+◌, ◌≤◌, ◌<◌}
 use native.Mathlib.Numerals.{add-one}
 use native.Mathlib.Omega.{arith}
-use borrow.Author.Tests.{le-leb, lt-leb}
+use borrow.Author.Tests.{le-leb, lt-leb, ne_eqb}
+use Rattle.std.proofs.lemmas.Bool.Decides.{nat_tests}
+use lib.Dec.{eqb}
+use mir.Syntax.{w64}
+use mir.Val.{SFits, of_z}
 use lib.IntN.{ℤ, pos, negsuc, nat_abs, ◌+ℤ◌}
 use lib.Signed.{le_z, lt_z}
 use Rattle.model.specs.Lists.{all}
@@ -57,35 +61,21 @@ pub sum_z-same : (n : ℕ) (f g : ℕ → ℤ) → ((i : ℕ) → f i ≡ g i) �
 sum_z-same zero f g h = refl
 sum_z-same (suc n) f g h = ap₂ ◌+ℤ◌ (sum_z-same n f g h) (h n)
 
+-- a sum that is a number, as the code compares them
+exact : (d : ℕ) (y : ℤ) → SFits w64 y → d ≤ 100 → eqb (of_z w64 y) d ≡ inside (pos d) (pos d) y
+exact d (pos n) f h = grind (arith, nat_tests)
+exact d (negsuc n) f h = let k = f.sfits in ne_eqb (of_z w64 (negsuc n)) d (λ e. omega (arith, e, k))
+
 -- the weights of an action, as they were read and added
-pub weights_as : (t : Words) (z : Table) → TableRead t z → (j at r : ℕ) → at ≡ z.columns + j + z.l + 1 → r ≡ table_branches t j
-    → (y d : ℤ) → y ≡ sum_z r (λ (i : ℕ). word t (at + i)) → d ≡ pos z.d → inside d d y ≡ weights_add t j
+pub weights_as : (t : Words) (z : Table) → TableRead t z → z.d ≤ 100 → (j at r : ℕ) → at ≡ z.columns + j + z.l + 1 → r ≡ table_branches t j
+    → (y : ℤ) → SFits w64 y → y ≡ sum_z r (λ (i : ℕ). word t (at + i)) → eqb (of_z w64 y) z.d ≡ weights_add t j
 unfolding weights_add
-weights_as t z are j at r a b y d e f =
-    ap₂ (λ (x y : ℤ). inside x x y) (f ∙ ap pos are.d_is)
+weights_as t z are h j at r a b y f e =
+    exact z.d y f h
+    ∙ ap₂ (λ (x y : ℤ). inside x x y) (ap pos are.d_is)
     (e ∙ sum_z-same r (λ (i : ℕ). word t (at + i)) (λ (i : ℕ). table_right t (j + 1 + i))
     (λ i. right_at t z are (j + 1 + i) (at + i) (omega (arith, a)))
     ∙ ap (λ (n : ℕ). sum_z n (λ (i : ℕ). table_right t (j + 1 + i))) b)
-
--- ---- 26, of one action
-
-module _ (t : Words) (j : ℕ) where
-  pub entry_unfit : table_lines t < table_after t j → false ≡ entry_given t j
-  unfolding entry_given lines_fit
-  entry_unfit h = rw (lt-leb (table_after t j) (table_lines t) h, and_right (some_branch t j))
-
-  pub entry_unbranched : le_z (pos 1) (table_left t j) ≡ false → false ≡ entry_given t j
-  unfolding entry_given some_branch
-  entry_unbranched e = rw e
-
-  module _ (some : le_z (pos 1) (table_left t j) ≡ true) (fit : table_after t j ≤ table_lines t) where
-    pub entry_beyond : amount_inside (table_right t j) ≡ false → false ≡ entry_given t j
-    unfolding entry_given some_branch lines_fit reward_inside
-    entry_beyond e = rw (some, le-leb (table_after t j) (table_lines t) fit, e)
-
-    pub entry_weighed : amount_inside (table_right t j) ≡ true → weights_add t j ≡ entry_given t j
-    unfolding entry_given some_branch lines_fit reward_inside
-    entry_weighed e = rw (some, le-leb (table_after t j) (table_lines t) fit, e)
 
 -- ---- 26, of the closing lines
 

@@ -25,28 +25,14 @@ pub struct Table {
 fn sizes_given(t: &[i32]) -> bool
     ensures { result ≡ sizes_given t.now }
 {
-    if t.len() < 5 {
-        return false;
-    }
-    if !book::word_in(t, 2, 1, 16) {
-        return false;
-    }
-    if !book::word_above(t, 3, -1) {
-        return false;
-    }
-    if !book::words_rise(t, 3, 2) {
-        return false;
-    }
-    if !book::word_in(t, 0, 1, 100) {
-        return false;
-    }
-    if !book::word_in(t, 1, 1, 8) {
-        return false;
-    }
-    if !book::word_in(t, 4, 1, 2048) {
-        return false;
-    }
-    t.len() == 5 + book::size_at(t, 2) + 2 * book::size_at(t, 4)
+    t.len() >= 5
+        && book::word_in(t, 2, 1, 16)
+        && book::word_above(t, 3, -1)
+        && book::words_rise(t, 3, 2)
+        && book::word_in(t, 0, 1, 100)
+        && book::word_in(t, 1, 1, 8)
+        && book::word_in(t, 4, 1, 2048)
+        && t.len() == 5 + book::size_at(t, 2) + 2 * book::size_at(t, 4)
 }
 
 // The sizes of a table that passes 25.
@@ -58,19 +44,11 @@ pub fn read_table(t: &[i32]) -> Table
     Table {
         d: book::size_at(t, 0),
         h: book::size_at(t, 1),
-        n: n,
+        n,
         first: book::size_at(t, 3),
         l: book::size_at(t, 4),
         columns: 5 + n,
     }
-}
-
-// A word more of a sum.
-fn add(sum: i64, x: i32) -> i64
-    requires { nat_abs sum ≤ 4398046511104 }
-    ensures { result ≡ sum +ℤ x }
-{
-    sum + x as i64
 }
 
 // The sum of r words from word `at` on.
@@ -79,17 +57,10 @@ fn weigh(t: &[i32], at: usize, r: usize) -> i64
     ensures { result ≡ sum_z r (λ i. word t.now (at + i)) }
 {
     let mut sum: i64 = 0;
-    for i in 0..r {
-        sum = add(sum, book::word_at(t, at + i));
+    for x in &t[at..at + r] {
+        sum += *x as i64;
     }
     sum
-}
-
-// Is x from lo to hi?
-fn within(x: i64, lo: i64, hi: i64) -> bool
-    ensures { result ≡ inside lo hi x }
-{
-    lo <= x && x <= hi
 }
 
 // 26, of the action whose first line is line j: its r, its lines, its weights and its reward.
@@ -106,15 +77,9 @@ fn entry_given(t: &[i32], z: Table, j: usize) -> bool
         return false;
     }
     let r = book::size_at(t, at);
-    if l < j + 1 + r {
-        return false;
-    }
-    if !book::word_in(t, at + l, -100000, 100000) {
-        return false;
-    }
-    let d = z.d as i64;
-    let sum = weigh(t, at + l + 1, r);
-    within(sum, d, d)
+    j + 1 + r <= l
+        && book::word_in(t, at + l, -100000, 100000)
+        && weigh(t, at + l + 1, r) == z.d as i64
 }
 
 // The walk over the actions of state s, whose first line is line `start`: the line after the last, if each of them is as asked.
@@ -128,7 +93,7 @@ pub fn walk_state(t: &[i32], z: Table, s: usize, start: usize) -> Option<usize>
         if !entry_given(t, z, at) {
             return None;
         }
-        at = at + 1 + book::size_at(t, z.columns + at);
+        at += 1 + book::size_at(t, z.columns + at);
     }
     Some(at)
 }
@@ -157,14 +122,10 @@ fn lines_given(t: &[i32], z: Table) -> bool
     let Some(at) = walk_to(t, z, n) else {
         return false;
     };
-    if at + n != z.l {
-        return false;
-    }
     let closing = z.columns + at;
-    if !book::words_in(t, closing, n, 0, 0) {
-        return false;
-    }
-    book::words_in(t, closing + z.l, n, -100000, 100000)
+    at + n == z.l
+        && book::words_in(t, closing, n, 0, 0)
+        && book::words_in(t, closing + z.l, n, -100000, 100000)
 }
 
 // The questions 25 and 26.

@@ -2,7 +2,7 @@
 -- Assumes nothing.
 use mathlib.Core.Path.{◌≡◌}
 use mathlib.Core.Bool.{true}
-use Prim.Native.Nat.{ℕ, ◌-◌, ◌≤◌}
+use Prim.Native.Nat.{ℕ, ◌≤◌}
 use Rattle.model.specs.Lists.{all}
 use Rattle.reward_table.specs.Table.{table_action_line}
 use Rattle.reward_table.specs.Read.{entry_given}
@@ -10,4 +10,4 @@ use Rattle.reward_table.proofs.walk_state.Given as goal
 
 abbrev pub invariant-loop-c : goal.invariant-loop-c
 invariant-loop-c l =
-    (l.c ≤ l.count) × (l.at ≡ table_action_line l.t l.s l.c) × (l.at ≤ 2048) × (all l.c (λ (k : ℕ). entry_given l.t (table_action_line l.t l.s k)) ≡ true)
+    (l.at ≡ table_action_line l.t l.s l._c) × (l.at ≤ 2048) × (all l._c (λ (k : ℕ). entry_given l.t (table_action_line l.t l.s k)) ≡ true)

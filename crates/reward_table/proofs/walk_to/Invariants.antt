@@ -2,11 +2,11 @@
 -- Assumes nothing.
 use mathlib.Core.Path.{◌≡◌}
 use mathlib.Core.Bool.{true}
-use Prim.Native.Nat.{◌-◌, ◌≤◌}
+use Prim.Native.Nat.{◌≤◌}
 use Rattle.model.specs.Lists.{all}
 use Rattle.reward_table.specs.Table.{table_state_line}
 use Rattle.reward_table.specs.Read.{state_given}
 use Rattle.reward_table.proofs.walk_to.Given as goal
 
 abbrev pub invariant-loop-s : goal.invariant-loop-s
-invariant-loop-s l = (l.s ≤ l.end) × (l.at ≡ table_state_line l.t l.s) × (l.at ≤ 2048) × (all l.s (state_given l.t) ≡ true)
+invariant-loop-s l = (l.at ≡ table_state_line l.t l.s) × (l.at ≤ 2048) × (all l.s (state_given l.t) ≡ true)
