@@ -16,11 +16,6 @@ pub record MarksOf (ws : Words) (marks : List ℕ) : Type 0 where
   pub one_each : length marks ≡ first_mark ws (state_count ws)
   pub values : (b : ℕ) → In b marks → b ≤ 1
 
--- an array of 64 zeros
-pub record Zeros (v : List ℕ) : Type 0 where
-  pub long : length v ≡ 64
-  pub zero_at : (q : ℕ) → number_at v q ≡ 0
-
 -- v has the most marked actions from each state on, of the states from p on, and 0 for those before
 pub record MostTo (ws : Words) (marks : List ℕ) (bs : Policy) (p : ℕ) (v : List ℕ) : Type 0 where
   pub long : length v ≡ 64

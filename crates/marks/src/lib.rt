@@ -3,14 +3,13 @@
 #![tactic(auto)]
 
 ghost use Rattle.std.specs.Prelude.{◌≡◌, ◌+◌, ◌≤◌, length, take, drop};
-ghost use Rattle.model.specs.Lists.{every};
 ghost use Rattle.model.specs.Model.{state_count, action};
-ghost use Rattle.model.specs.Limit.{limit_of, first_mark, mark_of, is_mark, limit_allowed};
+ghost use Rattle.model.specs.Limit.{limit_of, first_mark, mark_of, limit_allowed};
 ghost use Rattle.path_sums.specs.Most.{most_next};
 ghost use Rattle.path_sums.specs.Books.{most_over};
 ghost use Rattle.index.specs.Index.{Checked, Indexed};
 ghost use Rattle.lines.specs.Lines.{LinesOf};
-ghost use Rattle.marks.specs.Marks.{number_at, MarksOf, Zeros};
+ghost use Rattle.marks.specs.Marks.{number_at, MarksOf};
 
 use book::Sizes;
 use lines::Lines;
@@ -26,25 +25,11 @@ fn action_total(b: &[i32], z: Sizes) -> usize
     requires { Checked b.now z }
     ensures { result ≡ first_mark b.now (state_count b.now) }
 {
-    let s = z.s;
-    let mut n: usize = 0;
-    for p in 0..s {
-        n = n + index::count(b, z, p);
+    let mut n = 0;
+    for p in 0..z.s {
+        n += index::count(b, z, p);
     }
     n
-}
-
-// Is each byte a mark?
-fn all_marks(marks: &[u8]) -> bool
-    ensures { result ≡ every is_mark marks.now }
-{
-    let n = marks.len();
-    for i in 0..n {
-        if HIGHEST_MARK < marks[i] {
-            return false;
-        }
-    }
-    true
 }
 
 // 29: are there as many marks as actions of a checked book, each 1 or 0, and is m allowed?
@@ -52,14 +37,9 @@ pub fn allowed(b: &[i32], z: Sizes, marks: &[u8], m: usize) -> bool
     requires { Checked b.now z }
     ensures { result ≡ limit_allowed b.now (limit_of marks.now m) }
 {
-    let n = action_total(b, z);
-    if marks.len() != n {
-        return false;
-    }
-    if !all_marks(marks) {
-        return false;
-    }
-    m <= HIGHEST_LIMIT
+    marks.len() == action_total(b, z)
+        && marks.iter().all(|mark| *mark <= HIGHEST_MARK)
+        && m <= HIGHEST_LIMIT
 }
 
 // The most of v at the next states of action c of state p; 0 where it has none.
@@ -67,22 +47,11 @@ fn most_next(b: &[i32], a: Lines, p: usize, c: usize, v: &[usize; 64]) -> usize
     requires { LinesOf b.now p c a × (length v.now ≡ 64) }
     ensures { result ≡ most_next (number_at v.now) (action b.now p c).transitions }
 {
-    let r = a.r;
-    let mut most: usize = 0;
-    for i in 0..r {
-        let next = lines::next(b, a, p, c, i);
-        let y = v[next];
-        if most < y {
-            most = y;
-        }
+    let mut most = 0;
+    for i in 0..a.r {
+        most = most.max(v[lines::next(b, a, p, c, i)]);
     }
     most
-}
-
-fn zeros() -> [usize; 64]
-    ensures { Zeros result }
-{
-    [0; 64]
 }
 
 // The most marked actions on any path of the policy whose bytes begin at index `at`.
@@ -90,11 +59,11 @@ pub fn most(b: &[i32], z: Sizes, x: &[usize; 192], marks: &[u8], plans: &[u8], a
     requires { Indexed b.now z x.now × MarksOf b.now marks.now × (at + state_count b.now ≤ length plans.now) }
     ensures { result ≡ most_over b.now (mark_of b.now marks.now) (take (state_count b.now) (drop at plans.now)) }
 {
-    let mut v = zeros();
+    let mut v = [0; 64];
     let mut first = marks.len();
     for p in (0..z.s).rev() {
         let n = index::count(b, z, p);
-        first = first - n;
+        first -= n;
         let c = plans[at + p] as usize;
         if c < n {
             let a = lines::of_action(b, z, x, p, c);

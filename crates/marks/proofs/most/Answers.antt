@@ -1,12 +1,10 @@
 -- Assumes nothing.
-use mathlib.Core.Path.{◌≡◌, sym, ap, ◌∙◌, subst}
-use Prim.Native.Nat.{ℕ, ◌+◌, ◌-◌, ◌≤◌, ◌<◌}
+use mathlib.Core.Path.{◌≡◌, refl, sym, ap, ◌∙◌, subst}
+use Prim.Native.Nat.{ℕ, zero, suc, ◌+◌, ◌-◌, ◌≤◌, ◌<◌}
 use native.Mathlib.Omega.{arith}
-use mathlib.Core.List.{List}
-use lib.ListN.{length, take, drop, get_or, set}
+use lib.ListN.{length, take, drop, get_or, set, replicate}
 use lib.Seq.{get_or-take, get_or-drop}
-use Rattle.model.specs.Model.{Words, state_count, action_count, action}
-use Rattle.model.specs.Questions.{book_number}
+use Rattle.model.specs.Model.{Words, state_count, action}
 use Rattle.model.specs.Policy.{Policy}
 use Rattle.model.specs.Path.{byte_at}
 use Rattle.model.specs.Limit.{first_mark, mark_of}
@@ -16,134 +14,114 @@ use Rattle.accepted.specs.Shape.{shape}
 use Rattle.path_sums.specs.Most.{most_next}
 use Rattle.path_sums.specs.Books.{most_from}
 use Rattle.path_sums.proofs.Books.{over_from}
-use Rattle.marks.specs.Marks.{number_at, MarksOf, MostTo}
-use Rattle.marks.proofs.Counts.{mark_step, mark_few, mark_inside}
+use Rattle.marks.specs.Marks.{number_at, MostTo}
+use Rattle.marks.proofs.Counts.{mark_step, mark_inside}
 use Rattle.marks.proofs.Pass.{figure, stored, kept, few}
 use Rattle.marks.proofs.most.Goals as goal
+use Rattle.marks.proofs.most.Goals.{After-count-n}
+
+zero_at : (n q : ℕ) → number_at (replicate n 0) q ≡ 0
+zero_at zero q = refl
+zero_at (suc n) zero = refl
+zero_at (suc n) (suc q) = zero_at n q
 
 pub loop-p-init : goal.loop-p-init
 loop-p-init c =
-    let s = c in
-    let ws = s.args.b.now in
-    let e : s.args.z.s ≡ state_count ws = s.requires.0.checked.sizes.s_is in (
-      (accepted ws s.requires.0.checked.ok).sizes.s_high,
-      omega (arith, e),
-      s.requires.1.one_each ∙ ap (first_mark ws) (sym e),
-      record { long = c.zeros-v.ensures.long; done = λ q a b. absurd (omega (arith, e)); left = λ q a. c.zeros-v.ensures.zero_at q },
+    let e : c.args.z.s ≡ state_count c.args.b.now = c.requires.0.checked.sizes.s_is in (
+      c.requires.1.one_each ∙ ap (first_mark c.args.b.now) (sym e),
+      record { long = refl; done = λ q a b. absurd (omega (arith, e)); left = λ q a. zero_at 64 q },
     )
 
-pub count-n-requires : goal.count-n-requires
-count-n-requires c = (c.requires.0.checked, omega arith)
+-- the state before the last one done, which is p - 1
+module _ (c : After-count-n) where
+  abbrev ws : Words
+  ws = c.args.b.now
 
--- the state before the last one done, and where its marks begin
-due : (ws : Words) (p first n : ℕ) → 0 < p → first ≡ first_mark ws p → n ≡ action_count ws (p - 1) → first ≡ first_mark ws (p - 1) + n
-due ws p first n h f e =
-    let k : p ≡ p - 1 + 1 = omega arith in
-    omega (arith, ap (first_mark ws) k, mark_step ws (p - 1))
+  abbrev p : ℕ
+  p = c.loop-p.p - 1
 
-pub overflow_sub-first : goal.overflow_sub-first
-overflow_sub-first c =
-    let d = due c.args.b.now c.loop-p.p c.loop-p.first c.count-n.result c.loop-p-test.true c.loop-p.invariant.2 c.count-n.ensures in
-    omega arith
-
-pub of_action-a-requires : goal.of_action-a-requires
-of_action-a-requires c = (c.requires.0, omega arith, omega arith)
-
--- the byte of that state, which is p - 1
-module _ (ws : Words) (ok : book_number ws ≡ 0) (few_states : state_count ws ≤ 64) (marks : List ℕ) (m : MarksOf ws marks) (plans : List ℕ) (at : ℕ)
-    (fits : at + state_count ws ≤ length plans) (v : List ℕ) (p : ℕ) (some : 0 < p) (state : p ≤ state_count ws)
-    (done : MostTo ws marks (take (state_count ws) (drop at plans)) p v) (first n : ℕ) (due_is : first ≡ first_mark ws (p - 1) + n)
-    (count_is : n ≡ action_count ws (p - 1)) (c : ℕ) (byte_read : (c ≡ get_or plans (at + (p - 1)) 0) × (c < 256)) where
   abbrev bs : Policy
-  bs = take (state_count ws) (drop at plans)
+  bs = take (state_count ws) (drop c.args.at c.args.plans.now)
 
-  byte : byte_at bs (p - 1) ≡ c
+  abbrev choice : ℕ
+  choice = get_or c.args.plans.now (c.args.at + p) 0
+
+  -- where its marks begin
+  abbrev first : ℕ
+  first = c.loop-p.first - c.count-n.result
+
+  here : p < state_count ws
+  here = omega (arith, c.requires.0.checked.sizes.s_is)
+
+  due : c.loop-p.first ≡ first_mark ws p + c.count-n.result
+  due =
+      let k : c.loop-p.p ≡ p + 1 = omega arith in
+      omega (arith, ap (first_mark ws) k, mark_step ws p)
+
+  first_is : first ≡ first_mark ws p
+  first_is = omega (arith, due)
+
+  byte : byte_at bs p ≡ choice
   byte =
-      get_or-take (state_count ws) (drop at plans) (p - 1) 255 (omega arith)
-      ∙ get_or-drop at plans (p - 1) 255
-      ∙ byte_is plans (at + (p - 1)) 255 0 (omega arith) ∙ sym byte_read.0
+      get_or-take (state_count ws) (drop c.args.at c.args.plans.now) p 255 here
+      ∙ get_or-drop c.args.at c.args.plans.now p 255
+      ∙ byte_is c.args.plans.now (c.args.at + p) 255 0 (omega (arith, here))
 
-  later : MostTo ws marks bs (p - 1 + 1) v
+  later : MostTo ws c.args.marks.now bs (p + 1) c.loop-p.v
   later =
-      let e : p ≡ p - 1 + 1 = omega arith in
-      subst (λ (n : ℕ). MostTo ws marks bs n v) e done
-
-  first_is : first - n ≡ first_mark ws (p - 1)
-  first_is = omega arith
+      let e : c.loop-p.p ≡ p + 1 = omega arith in
+      subst (λ (n : ℕ). MostTo ws c.args.marks.now bs n c.loop-p.v) e c.loop-p.invariant.1
 
   -- the mark of an action lies among the marks
-  inside : c < n → first - n + c < length marks
-  inside h = omega (arith, first_is, m.one_each, mark_inside ws (p - 1) (omega arith))
-
-  low : first - n + c ≤ 767
-  low = omega (arith, first_is, byte_read.1, mark_few ws ok (p - 1) (omega arith))
+  inside : choice < c.count-n.result → first + choice < length c.args.marks.now
+  inside h = omega (arith, first_is, c.requires.1.one_each, mark_inside ws p here)
 
   -- the figure of the state
-  module _ (h : c < n) (mark most : ℕ) (mark_read : mark ≡ get_or marks (first - n + c) 0)
-      (most_is : most ≡ most_next (number_at v) (action ws (p - 1) c).transitions) where
-    is : mark + most ≡ most_from ws (mark_of ws marks) bs (p - 1)
+  module _ (h : choice < c.count-n.result) (most : ℕ) (most_is : most ≡ most_next (number_at c.loop-p.v) (action ws p choice).transitions) where
+    is : get_or c.args.marks.now (first + choice) 0 + most ≡ most_from ws (mark_of ws c.args.marks.now) bs p
     is =
         omega (
           arith,
           most_is,
-          figure ws ok marks bs (p - 1) c byte v later (omega arith) mark (mark_read ∙ ap (λ (i : ℕ). get_or marks (i + c) 0) first_is),
+          figure ws c.requires.0.checked.ok c.args.marks.now bs p choice byte c.loop-p.v later (omega arith) (get_or c.args.marks.now (first + choice) 0)
+              (ap (λ (i : ℕ). get_or c.args.marks.now (i + choice) 0) first_is),
         )
 
-    small : mark + most ≤ 9
-    small = omega (arith, is, few ws ok marks m bs (p - 1))
+    small : get_or c.args.marks.now (first + choice) 0 + most ≤ 9
+    small = omega (arith, is, few ws c.requires.0.checked.ok c.args.marks.now c.requires.1 bs p)
 
-    set_is : MostTo ws marks bs (p - 1) (set v (p - 1) (mark + most))
-    set_is = stored ws ok marks bs (p - 1) c byte v later (omega arith) few_states _ is
+    set_is : MostTo ws c.args.marks.now bs p (set c.loop-p.v p (get_or c.args.marks.now (first + choice) 0 + most))
+    set_is = stored ws c.requires.0.checked.ok c.args.marks.now bs p choice byte c.loop-p.v later here (accepted ws c.requires.0.checked.ok).sizes.s_high _ is
 
-  stays : n ≤ c → MostTo ws marks bs (p - 1) v
-  stays h = kept ws ok marks bs (p - 1) c byte v later (omega arith)
+  stays : c.count-n.result ≤ choice → MostTo ws c.args.marks.now bs p c.loop-p.v
+  stays h = kept ws c.requires.0.checked.ok c.args.marks.now bs p choice byte c.loop-p.v later (omega arith)
 
-pub overflow_add-first : goal.overflow_add-first
-overflow_add-first c =
-    let d = due c.args.b.now c.loop-p.p c.loop-p.first c.count-n.result c.loop-p-test.true c.loop-p.invariant.2 c.count-n.ensures in
-    let l = low c.args.b.now c.requires.0.checked.ok c.loop-p.invariant.0 c.args.marks.now c.requires.1 c.args.plans.now c.args.at c.requires.2 c.loop-p.v c.loop-p.p
-    c.loop-p-test.true c.loop-p.invariant.1 c.loop-p.invariant.3 c.loop-p.first c.count-n.result d c.count-n.ensures c.wide-c.result c.wide-c.ensures in
-    omega arith
+pub overflow_sub-first : goal.overflow_sub-first
+overflow_sub-first c = omega (arith, due (goal.at.overflow_sub-first c).After-count-n)
 
 pub bounds-marks-first : goal.bounds-marks-first
-bounds-marks-first c =
-    let d = due c.args.b.now c.loop-p.p c.loop-p.first c.count-n.result c.loop-p-test.true c.loop-p.invariant.2 c.count-n.ensures in
-    inside c.args.b.now c.requires.0.checked.ok c.loop-p.invariant.0 c.args.marks.now c.requires.1 c.args.plans.now c.args.at c.requires.2 c.loop-p.v c.loop-p.p
-    c.loop-p-test.true c.loop-p.invariant.1 c.loop-p.invariant.3 c.loop-p.first c.count-n.result d c.count-n.ensures c.wide-c.result c.wide-c.ensures c.if-c-n.true
-
-pub most_next-requires : goal.most_next-requires
-most_next-requires c = (c.of_action-a.ensures, c.loop-p.invariant.3.long)
+bounds-marks-first c = inside (goal.at.bounds-marks-first c).After-count-n c.if-c-n.true
 
 pub overflow_add-v : goal.overflow_add-v
-overflow_add-v c =
-    let d = due c.args.b.now c.loop-p.p c.loop-p.first c.count-n.result c.loop-p-test.true c.loop-p.invariant.2 c.count-n.ensures in
-    let l = small c.args.b.now c.requires.0.checked.ok c.loop-p.invariant.0 c.args.marks.now c.requires.1 c.args.plans.now c.args.at c.requires.2 c.loop-p.v c.loop-p.p
-    c.loop-p-test.true c.loop-p.invariant.1 c.loop-p.invariant.3 c.loop-p.first c.count-n.result d c.count-n.ensures c.wide-c.result c.wide-c.ensures c.if-c-n.true c.wide-mark.result c.most_next.result c.wide-mark.ensures.0 c.most_next.ensures in
-    omega arith
+overflow_add-v c = omega (arith, small (goal.at.overflow_add-v c).After-count-n c.if-c-n.true c.most_next.result c.most_next.ensures)
+
+pub offset_bounds-v-p : goal.offset_bounds-v-p
+offset_bounds-v-p c = omega (arith, here (goal.at.offset_bounds-v-p c).After-count-n, (accepted c.args.b.now c.requires.0.checked.ok).sizes.s_high)
+
+pub bounds-v-p : goal.bounds-v-p
+bounds-v-p c = omega (arith, here (goal.at.bounds-v-p c).After-count-n, (accepted c.args.b.now c.requires.0.checked.ok).sizes.s_high)
 
 pub loop-p-preserved-then-c-n : goal.loop-p-preserved-then-c-n
 loop-p-preserved-then-c-n c =
-    let d = due c.args.b.now c.loop-p.p c.loop-p.first c.count-n.result c.loop-p-test.true c.loop-p.invariant.2 c.count-n.ensures in (
-      c.loop-p.invariant.0,
-      omega arith,
-      omega arith,
-      set_is c.args.b.now c.requires.0.checked.ok c.loop-p.invariant.0 c.args.marks.now c.requires.1 c.args.plans.now c.args.at c.requires.2 c.loop-p.v c.loop-p.p
-          c.loop-p-test.true c.loop-p.invariant.1 c.loop-p.invariant.3 c.loop-p.first c.count-n.result d c.count-n.ensures c.wide-c.result c.wide-c.ensures c.if-c-n.true c.wide-mark.result c.most_next.result c.wide-mark.ensures.0 c.most_next.ensures,
-    )
+    let a = (goal.at.loop-p-preserved-then-c-n c).After-count-n in
+    (first_is a, set_is a c.if-c-n.true c.most_next.result c.most_next.ensures)
 
 pub loop-p-preserved : goal.loop-p-preserved
 loop-p-preserved c =
-    let d = due c.args.b.now c.loop-p.p c.loop-p.first c.count-n.result c.loop-p-test.true c.loop-p.invariant.2 c.count-n.ensures in (
-      c.loop-p.invariant.0,
-      omega arith,
-      omega arith,
-      stays c.args.b.now c.requires.0.checked.ok c.loop-p.invariant.0 c.args.marks.now c.requires.1 c.args.plans.now c.args.at c.requires.2 c.loop-p.v c.loop-p.p
-          c.loop-p-test.true c.loop-p.invariant.1 c.loop-p.invariant.3 c.loop-p.first c.count-n.result d c.count-n.ensures c.wide-c.result c.wide-c.ensures c.if-c-n.false,
-    )
+    let a = (goal.at.loop-p-preserved c).After-count-n in
+    (first_is a, stays a c.if-c-n.false)
 
 pub returns : goal.returns
 returns c =
-    let l = c in
-    let s = l in
-    let e : l.loop-p.p ≡ 0 = omega (arith, c.loop-p-test.false) in
-    l.loop-p.invariant.3.done 0 (omega (arith, e)) (shape s.args.b.now s.requires.0.checked.ok).some_state ∙ sym (over_from _ s.requires.0.checked.ok _ _)
+    let ok = c.requires.0.checked.ok in
+    c.loop-p.invariant.1.done 0 (omega arith) (shape c.args.b.now ok).some_state ∙ sym (over_from _ ok _ _)

@@ -1,7 +1,7 @@
 -- The most of the next states before transition i is had; that of those from i on is still to come.
 -- Assumes nothing.
 use mathlib.Core.Path.{◌≡◌}
-use Prim.Native.Nat.{◌-◌, ◌≤◌, max}
+use Prim.Native.Nat.{max}
 use lib.ListN.{drop}
 use Rattle.model.specs.Model.{action}
 use Rattle.path_sums.specs.Most.{most_next}
@@ -10,4 +10,4 @@ use Rattle.marks.proofs.most_next.Given as goal
 
 abbrev pub invariant-loop-i : goal.invariant-loop-i
 invariant-loop-i l =
-    (l.i ≤ l.r) × (most_next (number_at l.v) (action l.b l.p l.c).transitions ≡ max l.most (most_next (number_at l.v) (drop l.i (action l.b l.p l.c).transitions)))
+    most_next (number_at l.v) (action l.b l.p l.c).transitions ≡ max l.most (most_next (number_at l.v) (drop l.i (action l.b l.p l.c).transitions))
