@@ -39,10 +39,10 @@ pub fn sizes(b: &[i32]) -> Sizes
     let columns = n - 2 * l;
     Sizes {
         d: book::size_at(b, 0),
-        h: h,
-        l: l,
+        h,
+        l,
         s: columns - 4 - h,
-        columns: columns,
+        columns,
     }
 }
 
@@ -68,7 +68,7 @@ fn find_walking(b: &[i32], z: Sizes, p: usize, from: usize, c: usize) -> Found
         }
         k = word_after(b, z, p, d, k);
     }
-    Found { at: at, after: k }
+    Found { at, after: k }
 }
 
 // Where action c of state p begins, whose stage is t and whose lines begin at word `from`. At the last stage every action is one line.
@@ -76,9 +76,7 @@ pub fn find(b: &[i32], z: Sizes, t: Stage, p: usize, from: usize, c: usize) -> F
     requires { Checked b.now z × StageFor b.now p t × (p < state_count b.now) × (from ≡ word_of b.now p 0) × (c ≤ 255) }
     ensures { FoundIs b.now p c result }
 {
-    let n = t.n;
-    let h = z.h;
-    if n == h {
+    if t.n == z.h {
         return Found {
             at: from + c,
             after: from + index::count(b, z, p),
@@ -101,10 +99,10 @@ pub fn at_word(b: &[i32], z: Sizes, p: usize, c: usize, at: usize, base: usize) 
     ensures { LinesOf b.now p c result }
 {
     Lines {
-        at: at,
+        at,
         r: index::plain_at(b, at),
         l: z.l,
-        base: base,
+        base,
     }
 }
 

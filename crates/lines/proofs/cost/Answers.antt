@@ -4,7 +4,10 @@ use Prim.Native.Nat.{◌+◌}
 use native.Mathlib.Omega.{arith}
 use lib.IntN.{pos}
 use lib.ListN.{get_or}
+use mir.Syntax.{w32}
+use mir.Val.{SFits}
 use mir.Facts.{to_z-of_z}
+use Rattle.std.proofs.Common.{rules}
 use Rattle.model.specs.Model.{word}
 use Rattle.book.proofs.Words.{read32, wider}
 use Rattle.lines.proofs.Words.{inside, cost-word}
@@ -19,12 +22,9 @@ offset_bounds-b-t c = omega (arith, inside c.requires)
 pub bounds-b-t : goal.bounds-b-t
 bounds-b-t c = omega (arith, inside c.requires)
 
-pub overflow_cast-result : goal.overflow_cast-result
-overflow_cast-result c = rw (read32 _ c.result-1.given) (wider c.result-1.given)
-
 pub returns : goal.returns
 unfolding word
 returns c =
-    let s = c in
-    let y = get_or s.args.b.now (s.args.t.at + s.args.t.l) (pos 0) in
-    simp (read32 y c.result-1.given, to_z-of_z (wider {z = y} c.result-1.given)) (cost-word s.requires)
+    let y = get_or c.args.b.now (c.args.t.at + c.args.t.l) (pos 0) in
+    let f : SFits w32 y = search rules in
+    simp (read32 y f.sfits, to_z-of_z (wider {z = y} f.sfits)) (cost-word c.requires)

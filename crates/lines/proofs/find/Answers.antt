@@ -23,17 +23,17 @@ module _ (s : goal.Start) where
 pub overflow_add-result : goal.overflow_add-result
 overflow_add-result c = omega (arith, small (goal.at.overflow_add-result c).Start, c.requires.4)
 
-pub overflow_add-result-then-n-h : goal.overflow_add-result-then-n-h
-overflow_add-result-then-n-h c =
-    let s = (goal.at.overflow_add-result-then-n-h c).Start in
+pub overflow_add-result-then-t-z : goal.overflow_add-result-then-t-z
+overflow_add-result-then-t-z c =
+    let s = (goal.at.overflow_add-result-then-t-z c).Start in
     omega (arith, small s, c.count.ensures, (accepted s.args.b.now s.requires.0.ok).counts_high s.args.p s.requires.2)
 
-pub returns-then-n-h : goal.returns-then-n-h
-returns-then-n-h c =
+pub returns-then-t-z : goal.returns-then-t-z
+returns-then-t-z c =
     let s = c in
     let ws = s.args.b.now in
     let p = s.args.p in
-    let last : stage ws p ≡ horizon ws = for_stage ws p s.args.t s.requires.1 ∙ c.if-n-h.true ∙ s.requires.0.sizes.h_is in
+    let last : stage ws p ≡ horizon ws = for_stage ws p s.args.t s.requires.1 ∙ c.if-t-z.true ∙ s.requires.0.sizes.h_is in
     record {
       at-is = λ h. ap (λ k. k + s.args.c) s.requires.3 ∙ last_word s.requires.0 p s.requires.2 last s.args.c (omega arith);
       after_is =

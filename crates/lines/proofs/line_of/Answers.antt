@@ -57,8 +57,3 @@ overflow_add-result c = omega (arith, line_is c, small c)
 
 pub returns-then-x-p-eq0 : goal.returns-then-x-p-eq0
 returns-then-x-p-eq0 c = line_is c
-
-pub action_line-requires : goal.action_line-requires
-action_line-requires c =
-    let s = c in
-    (s.requires.0.checked, s.requires.1, s.requires.0.index.line s.args.p s.requires.1, omega arith)

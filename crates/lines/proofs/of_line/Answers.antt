@@ -1,7 +1,6 @@
 -- The columns begin at the word that the sizes say; the index has the first state of the next stage.
 -- Assumes nothing.
-use mathlib.Core.Path.{ap₂}
-use Prim.Native.Nat.{◌+◌, ◌<◌}
+use Prim.Native.Nat.{◌<◌}
 use native.Mathlib.Omega.{arith}
 use Rattle.accepted.specs.Facts.{accepted}
 use Rattle.index.proofs.Lines.{lines_inside}
@@ -24,10 +23,3 @@ offset_bounds-x-p c = omega (arith, low (goal.at.offset_bounds-x-p c).Start)
 
 pub bounds-x-p : goal.bounds-x-p
 bounds-x-p c = omega (arith, low (goal.at.bounds-x-p c).Start)
-
-pub at_word-requires : goal.at_word-requires
-at_word-requires c =
-    let s = c in
-    let k = s.requires.0 in
-    let a = s.requires.1 in
-    (k.checked, record { state = a.state; has = a.action; is = ap₂ ◌+◌ k.checked.sizes.columns_is a.line_is }, k.index.base s.args.p a.state)
