@@ -3,21 +3,21 @@
 use mathlib.Core.Path.{◌≡◌, sym, ap, ◌∙◌}
 use mathlib.Core.Bool.{true, false, not}
 use native.Mathlib.Omega.{arith}
-use lib.IntN.{pos}
-use lib.ListN.{get_or}
+use Rattle.std.proofs.Common.{rules}
 use Rattle.model.specs.Model.{Words}
 use Rattle.model.specs.Questions.{book_number}
 use Rattle.model.specs.Policy.{has_policy}
-use Rattle.model.specs.Calls.{least_number, least_cost}
+use Rattle.model.specs.Calls.{least_number}
 use Rattle.questions.specs.FirstNo.{then_yes}
-use Rattle.questions.specs.Answers.{stops, leaves}
+use Rattle.questions.specs.Answers.{stops}
+use Rattle.std.proofs.lemmas.Result.{err_from_is_err_and}
+use Rattle.refusal.specs.Refusal.{some_number}
 use Rattle.accepted.specs.Shape.{shape, has_alive, has_is}
 use Rattle.accepted.specs.Demands.{no_policy, passes_28, least_28, least_value}
 use Rattle.index.proofs.Lines.{headed}
 use Rattle.feasible.specs.Barred.{all_barred}
-use Rattle.costs.proofs.Sums.{read64}
 use Rattle.least.proofs.least.Goals as goal
-use Rattle.least.proofs.least.Goals.{Else-no-ne0, After-has64}
+use Rattle.least.proofs.least.Goals.{In_ok-check, After-has}
 
 -- 28 by whether the book has a policy
 module _ (ws : Words) (ok : book_number ws ≡ 0) where
@@ -28,39 +28,37 @@ module _ (ws : Words) (ok : book_number ws ≡ 0) where
   unfolding least_number
   number_0 e = then_yes (book_number ws) _ ok ∙ passes_28 ws ok e
 
-good : (c : goal.Else-no-ne0) → book_number c.args.b.now ≡ 0
-good c = sym c.check-no.ensures ∙ c.if-no-ne0.false
+good : (c : goal.In_ok-check) → book_number c.args.b.now ≡ 0
+good c = sym c.in_ok-check.ensures
 
-pub returns-then-no-ne0 : goal.returns-then-no-ne0
-unfolding least_cost least_number
-returns-then-no-ne0 c =
-    let e = stops c.check-no.ensures _ c.if-no-ne0.true in
-    (e, leaves e c.if-no-ne0.true _ _)
+pub returns-in_err-check-clause-number : goal.returns-in_err-check-clause-number
+unfolding least_number
+returns-in_err-check-clause-number c =
+    let p = err_from_is_err_and c.from_residual.result c.from_residual.ensures.1 in
+    rw (p.1, p.2) (stops c.in_err-check.ensures _ (some_number c.in_err-check.field-0.0))
 
 pub read_sizes-z-requires : goal.read_sizes-z-requires
-read_sizes-z-requires c = headed _ (good (goal.at.read_sizes-z-requires c).Else-no-ne0)
+read_sizes-z-requires c = headed _ (good (goal.at.read_sizes-z-requires c).In_ok-check)
 
 pub index-x-requires : goal.index-x-requires
-index-x-requires c = record { ok = good (goal.at.index-x-requires c).Else-no-ne0; sizes = c.read_sizes-z.ensures }
+index-x-requires c = record { ok = good (goal.at.index-x-requires c).In_ok-check; sizes = c.read_sizes-z.ensures }
 
 -- the test of state 0 is the question
-has : (c : goal.After-has64) → book_number c.args.b.now ≡ 0 → has_policy c.args.b.now ≡ not c.has64.result
+has : (c : goal.After-has) → book_number c.args.b.now ≡ 0 → has_policy c.args.b.now ≡ not c.has.result
 has c ok =
     has_is c.args.b.now ok
-    ∙ ap not (sym (c.has64.ensures ∙ c.find_barred-m.ensures.dead_is 0 (omega arith) (shape c.args.b.now ok).some_state))
+    ∙ ap not (sym (c.has.ensures ∙ c.find_barred-m.ensures.dead_is 0 (omega arith) (shape c.args.b.now ok).some_state))
 
-pub returns-then-has64 : goal.returns-then-has64
-unfolding least_cost
-returns-then-has64 c =
-    let ok = good (goal.at.returns-then-has64 c).Else-no-ne0 in
-    let n = sym (number_28 c.args.b.now ok (has (goal.at.returns-then-has64 c).After-has64 ok ∙ ap not c.if-has64.true)) in
-    (n, leaves n (omega arith) _ _)
+pub returns-then-has-clause-number : goal.returns-then-has-clause-number
+returns-then-has-clause-number c =
+    let ok = good (goal.at.returns-then-has-clause-number c).In_ok-check in
+    sym (number_28 c.args.b.now ok (has (goal.at.returns-then-has-clause-number c).After-has ok ∙ ap not c.if-has.true))
 
 pub fill_table-requires : goal.fill_table-requires
 fill_table-requires c =
     let m = c.find_barred-m in (
       record {
-        checked = record { ok = good (goal.at.fill_table-requires c).Else-no-ne0; sizes = c.read_sizes-z.ensures };
+        checked = record { ok = good (goal.at.fill_table-requires c).In_ok-check; sizes = c.read_sizes-z.ensures };
         index = c.index-x.ensures.index;
       },
       all_barred c.args.b.now m.result.off m.result.dead m.ensures,
@@ -70,12 +68,10 @@ fill_table-requires c =
 
 pub returns : goal.returns
 returns c =
-    let t = c.fill_table in
     let ws = c.args.b.now in
-    let ok = good (goal.at.returns c).Else-no-ne0 in
-    let p = has (goal.at.returns c).After-has64 ok ∙ ap not c.if-has64.false in (
-      sym (number_0 ws ok p),
-      read64 (get_or t.new.v 0 (pos 0)) c.result-1.given
-          ∙ t.ensures.least_is 0 (omega arith) (has_alive ws ok p)
-          ∙ sym (least_value ws ok p),
-    )
+    let ok = good (goal.at.returns c).In_ok-check in
+    let p = has (goal.at.returns c).After-has ok ∙ ap not c.if-has.false in
+    record {
+      number = sym (number_0 ws ok p);
+      cost = search rules ∙ c.fill_table.ensures.least_is 0 (omega arith) (has_alive ws ok p) ∙ sym (least_value ws ok p);
+    }

@@ -49,7 +49,7 @@ pub returns-then-not-byte_allowed : goal.returns-then-not-byte_allowed
 returns-then-not-byte_allowed c =
     let t = (goal.at.returns-then-not-byte_allowed c).In-loop-p in
     let is = byte_refused (ws t) (bs t) (p t) c.loop-p.w c.loop-p.invariant.bytes (inside t) (sym c.byte_allowed.ensures ∙ c.if-not-byte_allowed.true) in
-    (sym is, λ e. absurd (true≢false (sym e ∙ is)))
+    record { is = sym is; cost = tt }
 
 -- past the byte's test
 fit : (e : goal.Else-not-byte_allowed) → is_in (get_or e.args.plan.now e.loop-p.p 0) (allowed (options e.args.b.now e.loop-p.p) (weighs e.loop-p.w e.loop-p.p)) ≡ true
@@ -102,4 +102,4 @@ loop-p-preserved c =
 pub returns : goal.returns
 returns c =
     let f = finished c.loop-p.invariant (omega (arith, c.requires.sizes.s_is, c.loop-p-test.false)) in
-    (sym f.0, λ e. f.1)
+    record { is = sym f.0; cost = f.1 }
