@@ -1,8 +1,7 @@
 -- The questions 25 and 26 by the words that are read.
 -- Assumes nothing.
 use mathlib.Core.Path.{◌≡◌, refl, sym, ap, ap₂, ◌∙◌}
-use mathlib.Core.Bool.{true, false}
-use Prim.Native.Nat.{ℕ, zero, suc, ◌+◌, ◌≤◌, ◌<◌}
+use Prim.Native.Nat.{ℕ, zero, suc, ◌+◌, ◌≤◌}
 use native.Mathlib.Numerals.{add-one}
 use native.Mathlib.Omega.{arith}
 use borrow.Author.Tests.{le-leb, lt-leb, ne_eqb}
@@ -15,11 +14,11 @@ use lib.Signed.{le_z, lt_z}
 use Rattle.model.specs.Lists.{all}
 use Rattle.model.specs.Model.{Words, word}
 use Rattle.model.specs.Questions.{inside}
-use Rattle.questions.specs.Ranges.{and_right, all_same}
-use Rattle.reward_table.specs.Table.{table_states, table_lines, table_count, table_left, table_right, table_branches, table_after, table_state_line}
+use Rattle.questions.specs.Ranges.{all_same}
+use Rattle.reward_table.specs.Table.{table_states, table_count, table_left, table_right, table_branches, table_state_line}
 use Rattle.reward_table.specs.Table.{closing_line}
-use Rattle.reward_table.specs.Table.{some_branch, lines_fit, sum_z, weights_add, closing_bare, amount_inside, reward_inside}
-use Rattle.reward_table.specs.Read.{TableRead, entry_given}
+use Rattle.reward_table.specs.Table.{sum_z, weights_add, closing_bare, amount_inside, reward_inside}
+use Rattle.reward_table.specs.Read.{TableRead}
 use Rattle.reward_table.specs.Says.{closing_rewards}
 use Rattle.reward_table.specs.declared.Table.{Table}
 

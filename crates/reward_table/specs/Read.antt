@@ -1,6 +1,6 @@
 -- What the functions that read a table ask and give.
 -- Assumes nothing.
-use Rattle.std.specs.Prelude.{◌≡◌, Bool, true, ◌&&◌, ℕ, ◌+◌, ◌*◌, ◌≤◌, ◌<◌, length, is_some, IfSome, Option}
+use Rattle.std.specs.Prelude.{◌≡◌, Bool, ◌&&◌, ℕ, ◌+◌, ◌*◌, ◌≤◌, ◌<◌, length, is_some, IfSome, Option}
 use Rattle.model.specs.Lists.{all}
 use Rattle.model.specs.Model.{Words}
 use Rattle.reward_table.specs.Table.{table_scale, table_horizon, table_states, table_first, table_lines, table_count, table_state_line, table_action_line}

@@ -1,9 +1,9 @@
 // Planners' reward tables: their sizes, and their questions 25 and 26.
 #![tactic(auto)]
 
-ghost use Rattle.std.specs.Prelude.{◌≡◌, ◌+◌, ◌<◌, ◌≤◌, nat_abs, ◌+ℤ◌, length};
+ghost use Rattle.std.specs.Prelude.{◌≡◌, ◌+◌, ◌<◌, ◌≤◌, length};
 ghost use Rattle.model.specs.Model.{word};
-ghost use Rattle.model.specs.Questions.{first_no, inside};
+ghost use Rattle.model.specs.Questions.{first_no};
 ghost use Rattle.reward_table.specs.Table.{table_states, table_state_line, sizes_given, lines_given, table_questions, sum_z};
 ghost use Rattle.reward_table.specs.Read.{Given, TableRead, entry_given, Walked, WalkedTo};
 ghost use Rattle.refusal.specs.Refusal.{number_in};

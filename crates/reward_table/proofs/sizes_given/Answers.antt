@@ -1,6 +1,6 @@
 -- Each test of the chain is the definition's.
 -- Assumes nothing.
-use Rattle.std.proofs.Common.{rules, arith}
+use Rattle.std.proofs.Common.{arith}
 use Rattle.std.proofs.lemmas.Grind.{common_steps}
 use Rattle.std.proofs.lemmas.Bool.Decides.{nat_tests}
 use Rattle.reward_table.specs.Table.{sizes_given, table_states, table_lines}

@@ -1,5 +1,5 @@
 -- Assumes nothing.
-use mathlib.Core.Path.{◌≡◌, refl, sym, ◌∙◌}
+use mathlib.Core.Path.{◌≡◌, refl, sym}
 use native.Mathlib.Omega.{arith}
 use Rattle.questions.specs.Ranges.{all_fails}
 use Rattle.reward_table.specs.Read.{state_given, states_given}
