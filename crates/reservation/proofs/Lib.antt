@@ -1,2 +1,2 @@
-mod Bits
-mod Same
+pub mod Bits
+pub mod Refusals

@@ -2,7 +2,7 @@
 // gives the next. Its number alone is had too, for a desk that is lent, where only what a granted call changes is written.
 #![tactic(auto)]
 
-ghost use Rattle.std.specs.Prelude.{◌≡◌, not, ◌||◌, ◌%◌, eqb, get_or, replicate};
+ghost use Rattle.std.specs.Prelude.{◌≡◌, not, ◌||◌, eqb, get_or};
 ghost use Rattle.model.specs.Questions.{first_no};
 ghost use Rattle.reservation.specs.Reservations.{held_by, committed_by, free, ask_questions, commit_questions, cancel_questions, open_for, holding, taking, answer, asking, committing, cancelling};
 ghost use Rattle.refusal.specs.Refusal.{number_in};
@@ -24,18 +24,12 @@ pub struct Desk {
     pub committed: [u8; 16],
 }
 
-// The number of a call and the desk afterwards.
+// The number of a call and the desk afterwards. Two fields, not a Result: asking, committing, cancelling and opening of the specs, the laws of calls at a desk
+// and the edit refused_call_changes_the_desk read both.
 #[derive(Clone, Copy)]
 pub struct Answer {
     pub no: u32,
     pub desk: Desk,
-}
-
-// No rank for any rider.
-fn no_ranks() -> [u8; 16]
-    ensures { result ≡ replicate 16 0 }
-{
-    [0; 16]
 }
 
 // A desk for k plans, with nothing held or committed.
@@ -43,9 +37,9 @@ fn open_for(k: u8) -> Desk
     ensures { result ≡ open_for k }
 {
     Desk {
-        k: k,
-        held: no_ranks(),
-        committed: no_ranks(),
+        k,
+        held: [0; 16],
+        committed: [0; 16],
     }
 }
 
@@ -53,23 +47,15 @@ fn open_for(k: u8) -> Desk
 fn differs(held: u8, committed: u8, rank: u8, apart: u8) -> u8
     ensures { eqb result 0 ≡ (not (eqb held rank || eqb committed rank) || eqb apart 0) }
 {
-    if held == rank {
-        return apart;
+    if held == rank || committed == rank {
+        apart
+    } else {
+        0
     }
-    if committed == rank {
-        return apart;
-    }
-    0
-}
-
-// A rank that is listed, as a byte: k is one, so no such rank is cut.
-fn low_byte(rank: usize) -> u8
-    ensures { result ≡ rank % 256 }
-{
-    (rank % 256) as u8
 }
 
 // 22, which each call of a rider asks first; of cancelling it is the whole.
+#[tactic(auto, using(crate::proofs::Refusals::refusals))]
 fn rider_number(rider: usize) -> Result<(), Refusal>
     ensures { number_in result ≡ first_no cancel_questions rider }
 {
@@ -102,38 +88,35 @@ impl Desk {
     pub fn held_by(self, rider: usize) -> usize
         ensures { result ≡ held_by self rider }
     {
-        let ranks = self.held;
-        rank_of(ranks, rider)
+        rank_of(self.held, rider)
     }
 
     // The rank that a rider has committed to, 0 none.
     pub fn committed_by(self, rider: usize) -> usize
         ensures { result ≡ committed_by self rider }
     {
-        let ranks = self.committed;
-        rank_of(ranks, rider)
+        rank_of(self.committed, rider)
     }
 
     // Is the rank with no other rider? All sixteen are asked, with no branch on what one has: sixteen bytes are compared at a time.
+    #[tactic(auto, using(crate::proofs::Bits::bits))]
     fn is_free(self, rider: u8, rank: u8) -> bool
         ensures { result ≡ free self rider rank }
     {
         let mut others: u8 = 0;
         for i in 0..RIDERS {
-            others = others | differs(self.held[i], self.committed[i], rank, i as u8 ^ rider);
+            others |= differs(self.held[i], self.committed[i], rank, i as u8 ^ rider);
         }
         others == 0
     }
 
     // The questions of asking. A rank that is listed is a byte, as k is one.
+    #[tactic(auto, using(crate::proofs::Refusals::refusals))]
     pub fn ask_number(self, rider: usize, rank: usize) -> Result<(), Refusal>
         ensures { number_in result ≡ first_no (ask_questions self rank) rider }
     {
         rider_number(rider)?;
-        if rank < 1 {
-            return Err(Refusal::Rank);
-        }
-        if rank > self.k as usize {
+        if rank < 1 || rank > self.k as usize {
             return Err(Refusal::Rank);
         }
         if self.committed_by(rider) != 0 {
@@ -144,11 +127,16 @@ impl Desk {
     }
 
     // The questions of committing.
+    #[tactic(auto, using(crate::proofs::Refusals::refusals))]
     pub fn commit_number(self, rider: usize) -> Result<(), Refusal>
         ensures { number_in result ≡ first_no (commit_questions self) rider }
     {
         rider_number(rider)?;
-        if self.held_by(rider) == 0 { Err(Refusal::Taken) } else { Ok(()) }
+        if self.held_by(rider) == 0 {
+            Err(Refusal::Taken)
+        } else {
+            Ok(())
+        }
     }
 
     // The question of cancelling.
@@ -185,19 +173,24 @@ impl Desk {
     {
         match asked {
             Ok(()) => Answer { no: 0, desk: next },
-            Err(q) => Answer { no: q.into(), desk: self },
+            Err(q) => Answer {
+                no: q.into(),
+                desk: self,
+            },
         }
     }
 
-    // A granted ask drops the rider's earlier hold.
+    // A granted ask drops the rider's earlier hold. A rank that is granted is listed, so it is a byte and not cut.
+    #[tactic(auto, using(crate::proofs::Refusals::same_byte), unfolding(crate::specs::Reservations::asking))]
     pub fn asking(self, rider: usize, rank: usize) -> Answer
         ensures { result ≡ asking self rider rank }
     {
         let asked = self.ask_number(rider, rank);
-        self.answer(asked, self.holding(rider, low_byte(rank)))
+        self.answer(asked, self.holding(rider, (rank % 256) as u8))
     }
 
     // The rank held becomes the rider's.
+    #[tactic(auto, unfolding(crate::specs::Reservations::committing))]
     pub fn committing(self, rider: usize) -> Answer
         ensures { result ≡ committing self rider }
     {
@@ -206,6 +199,7 @@ impl Desk {
     }
 
     // A hold is dropped, a commitment never.
+    #[tactic(auto, unfolding(crate::specs::Reservations::cancelling))]
     pub fn cancelling(self, rider: usize) -> Answer
         ensures { result ≡ cancelling self rider }
     {
