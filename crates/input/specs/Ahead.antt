@@ -1,6 +1,6 @@
 -- K and a book after other bytes: where these end, what is asked of the book that was read after them, and that bytes beyond those that count change nothing.
 -- Assumes nothing.
-use Rattle.std.specs.Prelude.{◌≡◌, Bool, List, [], ◌∷◌, ℕ, zero, suc, ◌+◌, ◌-◌, ◌≤◌, ◌<◌, take, drop}
+use Rattle.std.specs.Prelude.{◌≡◌, Bool, Option, Some, None, List, [], ◌∷◌, ℕ, zero, suc, ◌+◌, ◌-◌, ◌≤◌, ◌<◌, take, drop}
 use Rattle.std.proofs.Math.Path.{refl}
 use Rattle.std.proofs.Common.{ap, ap₂, ◌∙◌, arith, length-drop, drop_of_length-le, take_all, take-take}
 use Rattle.std.proofs.Math.Bool.{true, false, cond}
@@ -17,37 +17,36 @@ use Rattle.questions.specs.FirstNo.{then_zero}
 use Rattle.input.specs.declared.Input.{Input}
 use Rattle.input.specs.Read.{Read, book}
 
--- the index n after the other bytes, or 0 where the input ends before it
-unfoldable pub end_ahead : ℕ → List ℕ → ℕ
-end_ahead n input = cond (leb n (length input)) n 0
+-- the index n after the other bytes, if the input goes so far
+unfoldable pub end_ahead : ℕ → List ℕ → Option ℕ
+end_ahead n input = cond (leb n (length input)) (Some n) None
 
 module _ (n : ℕ) (input : List ℕ) where
-  pub cut_short : length input < n → 0 ≡ end_ahead n input
+  pub cut_short : length input < n → None ≡ end_ahead n input
   unfolding end_ahead
   cut_short h = rw (lt-leb n (length input) h)
 
-  pub whole : {e : ℕ} → e ≡ n → n ≤ length input → e ≡ end_ahead n input
+  pub whole : {e : ℕ} → e ≡ n → n ≤ length input → Some e ≡ end_ahead n input
   unfolding end_ahead
-  whole i h = rw (le-leb n (length input) h) i
+  whole i h = rw (le-leb n (length input) h, i)
 
   -- what an end says
-  module _ {e : ℕ} (i : e ≡ end_ahead n input) where
-    pub ends : (e ≡ 0 → ⊥) → (e ≡ n) × (e ≤ length input)
-    unfolding end_ahead
-    ends h = go (leb n (length input)) refl i
-      where
-        go : (b : Bool) → leb n (length input) ≡ b → e ≡ cond b n 0 → (e ≡ n) × (e ≤ length input)
-        go true t z = (z, omega (arith, z, leb-true n (length input) t))
-        go false t z = absurd (h z)
+  pub ends : {e : ℕ} → Some e ≡ end_ahead n input → (e ≡ n) × (e ≤ length input)
+  unfolding end_ahead
+  ends {e} i = go (leb n (length input)) refl i
+    where
+      go : (b : Bool) → leb n (length input) ≡ b → Some e ≡ cond b (Some n) None → (e ≡ n) × (e ≤ length input)
+      go true t z = let k : e ≡ n = cc in (k, omega (arith, k, leb-true n (length input) t))
+      go false t z = cc
 
-    -- nothing follows bytes that are cut short
-    pub nothing : (later : ℕ) → e ≡ 0 → 0 < n → 1 ≡ and_then (input_number (drop n input)) later
-    unfolding end_ahead input_number
-    nothing later h o = go (leb n (length input)) refl i
-      where
-        go : (b : Bool) → leb n (length input) ≡ b → e ≡ cond b n 0 → 1 ≡ and_then (input_number (drop n input)) later
-        go true t z = absurd (omega (arith, z, h, o))
-        go false t z = rw (drop_of_length-le input {i = n} (omega (arith, leb-false n (length input) t)))
+  -- nothing follows bytes that are cut short
+  pub nothing : (later : ℕ) → None ≡ end_ahead n input → 1 ≡ and_then (input_number (drop n input)) later
+  unfolding end_ahead input_number
+  nothing later i = go (leb n (length input)) refl i
+    where
+      go : (b : Bool) → leb n (length input) ≡ b → None ≡ cond b (Some n) None → 1 ≡ and_then (input_number (drop n input)) later
+      go true t z = cc
+      go false t z = rw (drop_of_length-le input {i = n} (omega (arith, leb-false n (length input) t)))
 
   pub rest-is : {e : ℕ} → e ≡ n → take (length input - e) (drop e input) ≡ drop n input
   rest-is {e} i = take_all (length input - e) (drop e input) (rw length-drop (omega arith)) ∙ ap (λ (m : ℕ). drop m input) i

@@ -8,12 +8,16 @@ ghost use Rattle.input.specs.Read.{Read};
 // The bytes of the input that count: K, the longest book and one word more.
 const MOST_INPUT: usize = 16696;
 
-// K, and the book, which is the first n of the words. Of what is no count and whole words after it n is 0: question 1 refuses a book without words.
+// The words of the longest book and one more.
+const MOST_WORDS: usize = 4173;
+
+// K, and the book, which is the first n of the words: there is no heap, so its length stands beside an array. Of what is no count and whole words after it n
+// is 0: question 1 refuses a book without words.
 #[derive(Drop)]
 pub struct Input {
     pub k: usize,
     pub n: usize,
-    pub words: [i32; 4173],
+    pub words: [i32; MOST_WORDS],
 }
 
 // Where a program puts what it reads. A shorter one would cut off the word by which a book is too long.
@@ -23,46 +27,24 @@ pub fn buffer() -> [u8; MOST_INPUT]
     [0; MOST_INPUT]
 }
 
-// No words, and room for those of any input.
-fn no_input() -> Input
-    ensures { (result.n ≡ 0) × (length result.words ≡ 4173) }
-{
-    Input {
-        k: 0,
-        n: 0,
-        words: [0; 4173],
-    }
-}
-
 // Of bytes of which every one counts.
 fn read_counted(r: &[u8]) -> Input
     requires { length r.now ≤ most_input }
     ensures { Read r.now result }
 {
-    let q = no_input();
-    if r.len() < 4 {
-        return q;
+    let mut words = [0; MOST_WORDS];
+    if r.len() < 4 || r.len() % 4 != 0 {
+        return Input { k: 0, n: 0, words };
     }
-    if r.len() % 4 != 0 {
-        return q;
-    }
-    let n = r.len() / 4 - 1;
     let k = bytes_io::read4(r, 0) as usize;
-    let mut words = q.words;
+    let n = r.len() / 4 - 1;
     bytes_io::read_words(r, 4, n, &mut words);
-    Input {
-        k: k,
-        n: n,
-        words: words,
-    }
+    Input { k, n, words }
 }
 
 // Of any bytes.
 pub fn read(r: &[u8]) -> Input
     ensures { Read r.now result }
 {
-    if r.len() < MOST_INPUT {
-        return read_counted(r);
-    }
-    read_counted(&r[..MOST_INPUT])
+    read_counted(&r[..r.len().min(MOST_INPUT)])
 }
