@@ -36,15 +36,16 @@ fn within(x: i32, lo: i32, hi: i32) -> bool
 }
 
 // Is word i from lo to hi?
+#[tactic(auto, unfolding(model::specs::Model::word))]
 pub fn word_in(b: &[i32], i: usize, lo: i32, hi: i32) -> bool
     requires { i < length b.now }
     ensures { result ≡ inside lo hi (word b.now i) }
 {
-    let x = b[i];
-    within(x, lo, hi)
+    within(b[i], lo, hi)
 }
 
 // Word i.
+#[tactic(auto, unfolding(model::specs::Model::word))]
 pub fn word_at(b: &[i32], i: usize) -> i32
     requires { i < length b.now }
     ensures { result ≡ word b.now i }
@@ -53,6 +54,7 @@ pub fn word_at(b: &[i32], i: usize) -> i32
 }
 
 // Is word i, a cost, the mark of a closed action?
+#[tactic(auto, unfolding(model::specs::Model::word))]
 pub fn is_closed(b: &[i32], i: usize) -> bool
     requires { i < length b.now }
     ensures { result ≡ closed (word b.now i) }
@@ -73,24 +75,17 @@ pub fn words_in(b: &[i32], at: usize, n: usize, lo: i32, hi: i32) -> bool
     true
 }
 
-// A word without its sign. It is widened first: the lowest word has no positive counterpart of its own width.
-fn size(x: i32) -> usize
-    ensures { (result ≡ nat_abs x) × (result ≤ 2147483648) }
-{
-    let y = x as i64;
-    if y < 0 { (0 - y) as usize } else { y as usize }
-}
-
 // Word i without its sign.
+#[tactic(auto, unfolding(model::specs::Model::word))]
 pub fn size_at(b: &[i32], i: usize) -> usize
     requires { i < length b.now }
     ensures { SizeIs (word b.now i) result }
 {
-    let x = b[i];
-    size(x)
+    b[i].unsigned_abs() as usize
 }
 
 // Is word i above x?
+#[tactic(auto, unfolding(model::specs::Model::word))]
 pub fn word_above(b: &[i32], i: usize, x: i32) -> bool
     requires { i < length b.now }
     ensures { result ≡ lt_z x (word b.now i) }
@@ -99,6 +94,7 @@ pub fn word_above(b: &[i32], i: usize, x: i32) -> bool
 }
 
 // Is word i below word k?
+#[tactic(auto, unfolding(model::specs::Model::word))]
 pub fn words_rise(b: &[i32], i: usize, k: usize) -> bool
     requires { (i < length b.now) × (k < length b.now) }
     ensures { result ≡ lt_z (word b.now i) (word b.now k) }

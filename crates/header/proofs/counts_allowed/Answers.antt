@@ -5,10 +5,6 @@ use native.Mathlib.Omega.{arith}
 use Rattle.model.specs.Questions.{count_allowed, counts_allowed}
 use Rattle.header.proofs.counts_allowed.Goals as goal
 
-pub words_in-requires : goal.words_in-requires
-words_in-requires c =
-    let s = c in omega (arith, s.requires.0.exact, s.requires.1.h_is, s.requires.1.s_is)
-
 pub returns : goal.returns
 unfolding counts_allowed count_allowed
 returns c =

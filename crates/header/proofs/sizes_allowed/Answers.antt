@@ -13,9 +13,6 @@ pub returns-then-not-word_in : goal.returns-then-not-word_in
 unfolding sizes_allowed
 returns-then-not-word_in c = rw (sym c.word_in.ensures ∙ c.if-not-word_in.true)
 
-pub words_in-requires : goal.words_in-requires
-words_in-requires c = let s = c in omega (arith, s.requires.0.long, s.requires.1.h_is)
-
 -- the states of each stage from stage 1 on
 later : (c : goal.After-words_in) →
     let ws = c.args.b.now in c.words_in.result ≡ all (horizon ws) (later_size ws)
