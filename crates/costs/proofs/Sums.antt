@@ -1,33 +1,25 @@
--- Sums of weighted costs: what fits, and how a loop takes them from the front.
+-- Sums of weighted costs: how large they are, and how a loop takes them from the front.
 -- Assumes nothing.
 use mathlib.Core.Path.{◌≡◌, sym, ◌∙◌}
-use mathlib.Core.List.{List, [], ◌∷◌}
+use mathlib.Core.List.{List, ◌∷◌}
 use Prim.Native.Nat.{ℕ, ◌+◌, ◌*◌, ◌^◌, ◌≤◌, ◌<◌}
 use native.Mathlib.Omega.{arith}
-use lib.Dec.{lit<}
-use lib.IntN.{ℤ, pos, nat_abs, ◌+ℤ◌, ◌*ℤ◌, +ℤ_assoc, +ℤ_idl, +ℤ_idr}
+use lib.IntN.{ℤ, pos, nat_abs, ◌+ℤ◌, ◌*ℤ◌, +ℤ_assoc, +ℤ_idl}
 use mir.Syntax.{w64}
-use mir.Val.{SFits, to_z, of_z}
+use mir.Val.{to_z, of_z}
 use mir.Facts.{to_z-of_z}
 use lib.Signed.{mag}
 use Rattle.model.specs.Model.{Transition}
 use Rattle.model.specs.Recursion.{expected}
 use Rattle.laws.specs.Int.{abs_add, abs_mul}
-use Rattle.book.proofs.Words.{fits64}
 use Rattle.costs.specs.Terms.{abs_expected}
 
 pub read64 : (z : ℤ) → mag z < 2 ^ 63 → to_z w64 (of_z w64 z) ≡ z
 read64 z h = to_z-of_z {w = w64} (record { sfits = h })
 
 module _ (acc : ℤ) (w : ℕ) (v : ℤ) (h : nat_abs acc + w * nat_abs v ≤ 4000000000000000000) where
-  pub product_fits : SFits w64 (pos w *ℤ v)
-  product_fits = fits64 4000000000000000000 (pos w *ℤ v) (omega (arith, abs_mul (pos w) v)) (lit< tt)
-
   pub sum_small : nat_abs (acc +ℤ pos w *ℤ v) ≤ nat_abs acc + w * nat_abs v
   sum_small = omega (arith, abs_add acc (pos w *ℤ v), abs_mul (pos w) v)
-
-  pub sum_fits : SFits w64 (acc +ℤ pos w *ℤ v)
-  sum_fits = fits64 4000000000000000000 (acc +ℤ pos w *ℤ v) (omega (arith, sum_small)) (lit< tt)
 
 -- ---- one transition after another
 
@@ -51,9 +43,6 @@ module _ {v : ℕ → ℤ} {total acc : ℤ} {left : List Transition} (h : Summe
           room = omega (arith, here, sum_small acc w (v q) one_small);
           rest = (rw e at h.rest) ∙ sym (+ℤ_assoc acc (pos w *ℤ v q) (expected v after));
         })
-
-  pub all_summed : left ≡ [] → acc ≡ total
-  all_summed e = sym ((rw (e, +ℤ_idr acc) at h.rest))
 
 -- ---- the first term: a cost against its unit
 

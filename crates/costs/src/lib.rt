@@ -26,9 +26,8 @@ fn expect(b: &[i32], a: Lines, p: usize, c: usize, v: &[i64; 64], start: i64) ->
     requires { LinesOf b.now p c a × (nat_abs start + abs_expected (value_at v.now) (action b.now p c).transitions ≤ 4000000000000000000) }
     ensures { result ≡ start +ℤ expected (value_at v.now) (action b.now p c).transitions }
 {
-    let r = a.r;
     let mut acc = start;
-    for i in 0..r {
+    for i in 0..a.r {
         let next = lines::next(b, a, p, c, i);
         let w = lines::weight(b, a, p, c, i);
         acc = mul_add(acc, w, v[next]);

@@ -1,17 +1,16 @@
 -- The action's cost against its unit, and then what is expected after it.
 -- Assumes nothing.
-use mathlib.Core.Path.{◌≡◌, ap, ◌∙◌}
+use mathlib.Core.Path.{◌≡◌}
 use mathlib.Core.Logic.{inr}
 use Prim.Native.Nat.{◌+◌, ◌*◌, ◌^◌, ◌≤◌}
 use native.Mathlib.Nat.{le_trans}
 use native.Mathlib.Omega.{arith}
 use lib.IntN.{pos, nat_abs, ◌+ℤ◌, ◌*ℤ◌}
 use Rattle.model.specs.Model.{Words, scale, togo, action}
-use Rattle.model.specs.Recursion.{expected}
 use Rattle.accepted.specs.Facts.{accepted}
 use Rattle.power.proofs.Range.{power_high}
 use Rattle.costs.specs.Terms.{abs_expected, value_at}
-use Rattle.costs.proofs.Sums.{read64, start_small, start_value, start_rest}
+use Rattle.costs.proofs.Sums.{read64, start_small, start_rest}
 use Rattle.costs.proofs.Actions.{within_most, most_small_lem}
 use Rattle.costs.proofs.action_cost.Goals as goal
 use Rattle.costs.proofs.action_cost.Goals.{After-mul_add-start, Start}
@@ -54,13 +53,3 @@ expect-requires c =
       rw (read64 c.mul_add-start.result c.mul_add-start.type_inv)
           (start_rest s.args.unit _ c.cost.result _ _ s.requires.1 c.cost.ensures (total s) c.mul_add-start.result (first c)),
     )
-
-pub returns : goal.returns
-returns c =
-    let d = c in
-    let s = (goal.at.returns d).Start in
-    rw (read64 c.expect.result c.expect.type_inv)
-    (c.expect.ensures
-    ∙ ap (λ y. y +ℤ expected (value_at s.args.v.now) (action (ws s) s.args.p s.args.c).transitions)
-    (read64 d.mul_add-start.result d.mul_add-start.type_inv ∙ first (goal.at.returns d).After-mul_add-start
-    ∙ start_value s.args.unit _ d.cost.result _ _ s.requires.1 d.cost.ensures (total s)))

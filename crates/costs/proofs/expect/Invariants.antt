@@ -1,6 +1,5 @@
 -- What is expected of the transitions from i on is still to be added.
 -- Assumes nothing.
-use Prim.Native.Nat.{◌-◌, ◌≤◌}
 use lib.IntN.{◌+ℤ◌}
 use lib.ListN.{drop}
 use Rattle.model.specs.Model.{action}
@@ -11,5 +10,4 @@ use Rattle.costs.proofs.expect.Given as goal
 
 abbrev pub invariant-loop-i : goal.invariant-loop-i
 invariant-loop-i l =
-    (l.i ≤ l.r)
-    × Summed (value_at l.v) (l.start +ℤ expected (value_at l.v) (action l.b l.p l.c).transitions) l.acc (drop l.i (action l.b l.p l.c).transitions)
+    Summed (value_at l.v) (l.start +ℤ expected (value_at l.v) (action l.b l.p l.c).transitions) l.acc (drop l.i (action l.b l.p l.c).transitions)

@@ -1,7 +1,6 @@
 -- The index has the stages still to come, which are at most 8.
 -- Assumes nothing.
-use mathlib.Core.Path.{ap₂, ◌∙◌}
-use Prim.Native.Nat.{◌^◌, ◌≤◌, ◌<◌}
+use Prim.Native.Nat.{◌≤◌, ◌<◌}
 use native.Mathlib.Omega.{arith}
 use Rattle.model.specs.Model.{togo}
 use Rattle.accepted.specs.Facts.{accepted}
@@ -30,8 +29,3 @@ raised-requires c =
     let z = s.requires.0.checked.sizes in
     let a = (accepted s.args.b.now s.requires.0.checked.ok).sizes in
     (omega (arith, z.d_is, a.d_high), omega (arith, few s, s.requires.0.index.to_go_lem s.args.p s.requires.1, z.h_is, a.h_high))
-
-pub returns : goal.returns
-returns c =
-    let s = c in
-    c.raised.ensures ∙ ap₂ ◌^◌ s.requires.0.checked.sizes.d_is (s.requires.0.index.to_go_lem s.args.p s.requires.1)

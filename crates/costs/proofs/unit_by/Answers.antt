@@ -8,9 +8,6 @@ use Rattle.accepted.specs.Facts.{accepted}
 use Rattle.book.proofs.Stages.{for_stage}
 use Rattle.costs.proofs.unit_by.Goals as goal
 
-pub overflow_sub-z : goal.overflow_sub-z
-overflow_sub-z c = let s = c in omega (arith, s.requires.1.last, s.requires.0.sizes.h_is)
-
 pub raised-requires : goal.raised-requires
 raised-requires c =
     let s = c in
