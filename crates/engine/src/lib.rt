@@ -70,7 +70,7 @@ fn first_of<'a>(
     requires { Slots order.now }
     ensures { ParentIs result costs.now splits.now barred.now (get_or order.now 0 0) }
 {
-    let slot = pool::slot_at(order, 0);
+    let slot = order[0] as usize;
     let cost = costs[slot];
     Parent {
         cost: cost,
@@ -143,7 +143,7 @@ fn search(
             costs[j] = least;
             at = j * s;
             let to = at + s;
-            let slot = pool::slot_at(&pool.order, 0);
+            let slot = pool.order[0] as usize;
             pool::read_row(&pool.plans, slot, s, &mut plans[at..to]);
             pool::move_back(&mut pool.order, count);
             pool.count = count - 1;
@@ -178,7 +178,7 @@ fn search(
                 let i = pool::place(&pool.costs, &pool.plans, &pool.order, n, s, more, &row);
                 if i < k {
                     let last = pool::spare_place(n, k);
-                    let slot = pool::slot_at(&pool.order, last);
+                    let slot = pool.order[last] as usize;
                     pool.costs[slot] = more;
                     pool::write_row(&mut pool.plans, slot, s, &row);
                     pool.splits[slot] = state as u8;

@@ -3,18 +3,18 @@
 use mathlib.Core.Path.{◌≡◌, refl, sym, ap, ◌∙◌, subst}
 use mathlib.Core.Bool.{Bool, true, false, not, ◌&&◌, ◌||◌}
 use mathlib.Core.List.{List, [], ◌∷◌, ◌++◌, map}
-use Prim.Native.Nat.{ℕ, zero, suc, ◌+◌, ◌-◌, ◌≤◌, ◌<◌}
-use native.Mathlib.Numerals.{add-one}
+use Prim.Native.Nat.{ℕ, zero, suc, ◌-◌, ◌%◌, ◌≤◌, ◌<◌}
 use native.Mathlib.Omega.{arith}
 use lib.Dec.{T, eqb, eqb→eq}
 use lib.IntN.{ℤ, pos}
 use lib.Signed.{lt_z, ◌≤ℤ◌, ◌<ℤ◌, lt_z_yes, lt_z_no, ≤ℤ_refl, clash_ℤ}
 use lib.ListN.{length, get_or, take, get_or-map, length-map}
 use lib.Seq.{take_at, get_or-take}
+use Rattle.std.specs.List.Sorted.{IsPartitionedBy}
 use Rattle.model.specs.Lists.{insert}
 use Rattle.model.specs.Order.{lower}
 use Rattle.laws.specs.Int.{ints, lt_in, ≤ℤ-trans, <→≤}
-use Rattle.laws.specs.Members.{true-T, false-T, and_T, Every, every_in, every_imp, every_take}
+use Rattle.laws.specs.Members.{T_true, true-T, false-T, and_T, Every, every_in, every_imp, every_take}
 use Rattle.stored.specs.Entry.{Entry, earlier_entry}
 use Rattle.pool.specs.declared.Pool.{Pool}
 use Rattle.pool.specs.Entries.{entry_at, entries, row, Ascending, slot_costs, costs_of, Cheaper, earlier_than, beyond_of}
@@ -162,23 +162,40 @@ module _ (zs : List ℤ) where
   abbrev cost_at : ℕ → ℤ
   cost_at j = get_or zs j (pos 0)
 
-  -- those up to place m cost no more than that of m
-  up_to : (xs : List ℕ) (m : ℕ) → m < length xs → Ascending (slot_costs zs xs) → Every (λ (j : ℕ). cost_at j ≤ℤ cost_at (get_or xs m 0))
-      (take (suc m) xs)
-  up_to [] m h a = absurd (omega arith)
-  up_to (x ∷ xs) zero h a = (≤ℤ_refl (cost_at x), tt)
-  up_to (x ∷ xs) (suc m) h a =
-      let e = get_or-map cost_at xs m 0 in (
-        subst (λ (y : ℤ). cost_at x ≤ℤ y) e
-            (every_in (λ (y : ℤ). cost_at x ≤ℤ y) (slot_costs zs xs) a.0 (get_or (slot_costs zs xs) m (cost_at 0))
-            (at_in (slot_costs zs xs) m (cost_at 0) (omega (arith, length-map xs cost_at)))),
-        up_to xs m (omega arith) a.1,
-      )
+  -- the cost of a slot is at most that of a later one
+  rises : (xs : List ℕ) (d : ℕ) → Ascending (slot_costs zs xs) → (i j : ℕ) → i ≤ j → j < length xs → cost_at (get_or xs i d) ≤ℤ cost_at (get_or xs j d)
+  rises [] d a i j h l = absurd (omega arith)
+  rises (x ∷ xs) d a zero zero h l = ≤ℤ_refl (cost_at x)
+  rises (x ∷ xs) d a zero (suc j) h l =
+      subst (λ (y : ℤ). cost_at x ≤ℤ y) (get_or-map cost_at xs j d)
+      (every_in (λ (y : ℤ). cost_at x ≤ℤ y) (slot_costs zs xs) a.0 (get_or (slot_costs zs xs) j (cost_at d))
+      (at_in (slot_costs zs xs) j (cost_at d) (omega (arith, length-map xs cost_at))))
+  rises (x ∷ xs) d a (suc i) zero h l = absurd (omega arith)
+  rises (x ∷ xs) d a (suc i) (suc j) h l = rises xs d a.1 i j (omega arith) (omega arith)
 
-  pub cheaper_more : (xs : List ℕ) (m : ℕ) (x : ℤ) → m < length xs → Ascending (slot_costs zs xs) → cost_at (get_or xs m 0) <ℤ x
-      → Cheaper zs x (take (m + 1) xs)
-  cheaper_more xs m x h a l =
-      rw add-one (every_imp (λ (j : ℕ) (k : cost_at j ≤ℤ cost_at (get_or xs m 0)). omega (ints, lt_in, k, l)) (take (suc m) xs) (up_to xs m h a))
+  -- the test that the code asks of a byte, which is for a slot whether it costs less
+  abbrev pub costs_less : ℤ → ℕ → Bool
+  costs_less x j = lt_z (cost_at (j % 64)) x
+
+  a_slot : (xs : List ℕ) (i d : ℕ) → Every (λ (j : ℕ). j < 64) xs → i < length xs → get_or xs i d % 64 ≡ get_or xs i d
+  a_slot xs i d low l = let h : get_or xs i d < 64 = every_in (λ (j : ℕ). j < 64) xs low (get_or xs i d) (at_in xs i d l) in omega arith
+
+  -- no slot that costs less comes after one that does not
+  pub parted : (x : ℤ) (xs : List ℕ) → Every (λ (j : ℕ). j < 64) xs → Ascending (slot_costs zs xs) → IsPartitionedBy (costs_less x) xs
+  parted x xs low a i j d h l t =
+      let less : cost_at (get_or xs j d) <ℤ x = lt_z_yes (true-T (rw (a_slot xs j d low l) at t)) in
+      let more = rises xs d a i j h l in
+      let goes : cost_at (get_or xs i d) <ℤ x = omega (ints, lt_in, less, more) in
+      rw (a_slot xs i d low (omega arith)) (T_true _ goes.lt)
+
+  pub cheaper_before : (x : ℤ) (xs : List ℕ) (n : ℕ) → Every (λ (j : ℕ). j < 64) xs → n ≤ length xs
+      → ((k d : ℕ) → 0 ≤ k → k < n → costs_less x (get_or xs k d) ≡ true) → Cheaper zs x (take n xs)
+  cheaper_before x xs zero low l h = tt
+  cheaper_before x [] (suc n) low l h = absurd (omega arith)
+  cheaper_before x (y ∷ xs) (suc n) low l h = (
+    lt_z_yes (true-T (rw (a_slot (y ∷ xs) 0 0 low (omega arith)) at (h 0 0 (omega arith) (omega arith)))),
+    cheaper_before x xs n low.1 (omega arith) (λ k d p q. h (suc k) d (omega arith) (omega arith)),
+  )
 
   pub cheaper_no : (ps bs : List ℕ) (s : ℕ) (x : ℤ) (js : List ℕ) → Cheaper zs x js → Every (λ (j : ℕ). earlier_than x bs s zs ps j ≡ false) js
   cheaper_no ps bs s x js h =

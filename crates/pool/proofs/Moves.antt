@@ -4,6 +4,7 @@ use mathlib.Core.Path.{◌≡◌, sym, ap, ◌∙◌, subst}
 use mathlib.Core.Logic.{◌⊎◌, inl, inr}
 use mathlib.Core.List.{List, [], ◌∷◌, ◌++◌, append_assoc}
 use Prim.Native.Nat.{ℕ, suc, ◌+◌, ◌-◌, ◌≤◌, ◌<◌}
+use native.Mathlib.Nat.{zero-add}
 use native.Mathlib.Numerals.{add-one}
 use native.Mathlib.Omega.{arith}
 use mathlib.Core.Bool.{Bool}
@@ -12,14 +13,13 @@ use lib.Signed.{lt_z}
 use mir.Syntax.{w64}
 use mir.Val.{SFits, to_z, of_z}
 use Rattle.std.proofs.lemmas.Int.{to_z-of_z}
-use lib.ListN.{length, get_or, set, take, drop, length-append, length-drop, take-append-drop}
-use lib.Seq.{drop-cons, split_at, drop-drop, take-add, take_at, length-take-le, get_or-drop, set_at}
+use lib.ListN.{length, get_or, take, drop, length-append, length-drop, take-append-drop}
+use lib.Seq.{drop-cons, split_at, drop-drop, take-add, take_at, length-take-le, ext_get_or}
 use Rattle.model.specs.Lists.{up_from}
-use Rattle.laws.specs.Joined.{up_from_long}
+use Rattle.laws.specs.Joined.{up_from_long, up_from_at}
 use Rattle.laws.specs.Members.{In, every_in, in_every, in_++, ++-in, Apart, up_from_in, up_from_rising}
 use Rattle.pool.specs.Entries.{Slots, moved_up, moved_back}
-use Rattle.laws.specs.Shift.{set_last, shifted_from}
-use Rattle.pool.proofs.Lists.{front-more, after_front, at_in, rising_apart}
+use Rattle.pool.proofs.Lists.{at_in, rising_apart}
 
 -- ---- costs as the code compares them
 
@@ -95,16 +95,24 @@ slots_moved {xs} {ys} m s =
       apart = m.once s.apart;
     }
 
-pub slot_low : {xs : List ℕ} → Slots xs → (i : ℕ) → i < 64 → get_or xs i 0 < 64
-slot_low {xs} s i h = every_in (λ (j : ℕ). j < 64) xs s.low (get_or xs i 0) (at_in xs i 0 (omega (arith, s.long)))
-
-pub first_slots : Slots (up_from 0 64)
+first_slots : Slots (up_from 0 64)
 first_slots =
     record {
       long = up_from_long 0 64;
       low = in_every (λ (j : ℕ). j < 64) (up_from 0 64) (λ z i. omega (arith, (up_from_in 0 64 {c = z} i).1));
       apart = rising_apart (up_from 0 64) (up_from_rising 0 64);
     }
+
+pub slot_low : {xs : List ℕ} → Slots xs → (i : ℕ) → i < 64 → get_or xs i 0 < 64
+slot_low {xs} s i h = every_in (λ (j : ℕ). j < 64) xs s.low (get_or xs i 0) (at_in xs i 0 (omega (arith, s.long)))
+
+-- each slot at its own place
+pub in_order_slots : (xs : List ℕ) → length xs ≡ 64 → ((i : ℕ) → i < 64 → get_or xs i 0 ≡ i) → Slots xs
+in_order_slots xs long at =
+    subst Slots
+    (ext_get_or 0 (up_from 0 64) xs (up_from_long 0 64 ∙ sym long)
+    (λ i h. let l : i < 64 = omega (arith, up_from_long 0 64) in up_from_at 0 64 i l ∙ zero-add i ∙ sym (at i l)))
+    first_slots
 
 -- ---- slot n moved up to place i
 
@@ -147,15 +155,6 @@ slot_new o n lt a k =
     (between_apart (get_or o n 0) (take n o) (drop (suc n) o) (subst Apart (split_at o n 0 lt) a)).0
     (++-in (get_or o n 0) (take n o) (drop (suc n) o) (inl k))
 
--- ---- the loop that moves it
-
--- those from place t on have moved
-abbrev pub moved_from : List ℕ → ℕ → ℕ → List ℕ
-moved_from o n t = shifted_from 1 o n t
-
-pub from_end : (o : List ℕ) (n t : ℕ) → t ≤ n → n < length o → set (moved_from o n t) t (get_or o n 0) ≡ moved_up t n o
-from_end o n t le lt = set_last o (between o t n ++ drop (n + 1) o) t (get_or o n 0) 0 (omega arith)
-
 -- ---- the first slot moved back to the end of the first n
 
 -- the others of the first n
@@ -183,23 +182,3 @@ module _ (o : List ℕ) (n : ℕ) (low : 1 ≤ n) (high : n ≤ length o) where
 
   pub back_first : take (n - 1) (moved_back n o) ≡ others o n
   back_first = take_at (others o n) (get_or o 0 0 ∷ drop n o) (n - 1) others_long
-
--- ---- the loop that moves it
-
--- the first t places hold the slots after the first
-abbrev pub moved_to : List ℕ → ℕ → List ℕ
-moved_to o t = take t (drop 1 o) ++ drop t o
-
-pub to_more : (o : List ℕ) (t : ℕ) → t + 1 < length o → set (moved_to o t) t (get_or (moved_to o t) (t + 1) 0) ≡ moved_to o (t + 1)
-to_more o t h =
-    let long : length (take t (drop 1 o)) ≡ t = length-take-le t (drop 1 o) (simp length-drop (omega arith)) in
-    let k : t + 1 ≡ 1 + t = omega arith in
-    ap (set (moved_to o t) t)
-    (after_front (take t (drop 1 o)) (drop t o) t 1 0 long ∙ get_or-drop t o 1 0 ∙ ap (λ (n : ℕ). get_or o n 0) k ∙ sym (get_or-drop 1 o t 0))
-    ∙ front-more o (drop 1 o) t 0 (omega arith) (simp length-drop (omega arith))
-
-pub to_end : (o : List ℕ) (n : ℕ) → 1 ≤ n → n ≤ length o → set (moved_to o (n - 1)) (n - 1) (get_or o 0 0) ≡ moved_back n o
-to_end o n low high =
-    let e : suc (n - 1) ≡ n = omega arith in
-    let long : length (others o n) ≡ n - 1 = others_long o n low high in
-    rw (drop-cons o (n - 1) 0 (omega arith), e) (set_at (others o n) (get_or o (n - 1) 0) (drop n o) (get_or o 0 0) (n - 1) long)

@@ -2,7 +2,7 @@
 // holds its pool by value; the functions here are lent the fields that they read or change.
 #![tactic(auto)]
 
-ghost use Rattle.std.specs.Prelude.{◌≡◌, [], ◌∷◌, ◌+◌, ◌*◌, ◌<◌, ◌≤◌, length, get_or, take, replicate};
+ghost use Rattle.std.specs.Prelude.{◌≡◌, [], ◌∷◌, ◌+◌, ◌*◌, ◌<◌, ◌≤◌, length, get_or, take};
 ghost use Rattle.std.proofs.Math.Seq.{paste};
 ghost use Rattle.model.specs.Order.{lower};
 ghost use Rattle.pool.specs.Entries.{row, entries, Slots, Ascending, slot_costs, Formed, Cheaper, earlier_than, first_yes, beyond_of, Spare, moved_up, moved_back};
@@ -25,36 +25,11 @@ pub struct Pool {
     pub most: usize,
 }
 
-fn zeros() -> [u8; 64]
-    ensures { result ≡ replicate 64 0 }
-{
-    [0; 64]
-}
-
 // The slots 0, 1, .., 63.
 fn first_order() -> [u8; 64]
     ensures { Slots result }
 {
-    let mut order = zeros();
-    for i in 0..64 {
-        order[i] = i as u8;
-    }
-    order
-}
-
-// A byte as a number.
-pub fn wide(x: u8) -> usize
-    ensures { result ≡ x }
-{
-    x as usize
-}
-
-// The slot at place i.
-pub fn slot_at(order: &[u8; 64], i: usize) -> usize
-    requires { i < 64 }
-    ensures { result ≡ get_or order.now i 0 }
-{
-    wide(order[i])
+    std::array::from_fn(|i| i as u8)
 }
 
 // Is the plan, the first s bytes, lower than that of slot j?
@@ -92,24 +67,13 @@ fn earlier(
     lower_bytes(plans, j, s, bytes)
 }
 
-// How many of the first n slots of `order` cost less: the costs ascend, so half of those in question are left after each test.
+// How many of the first n slots of `order` cost less: the costs ascend, so half of those in question are left after each test. The test must take any byte, and
+// a slot is its own remainder by 64.
 fn cheaper(costs: &[i64; 64], order: &[u8; 64], n: usize, cost: i64) -> usize
     requires { Slots order.now × (n ≤ 64) × Ascending (slot_costs costs.now (take n order.now)) }
     ensures { (result ≤ n) × Cheaper costs.now cost (take result (take n order.now)) }
 {
-    let mut low: usize = 0;
-    let mut high = n;
-    while low < high {
-        let middle = (low + high) / 2;
-        let slot = slot_at(order, middle);
-        let here = costs[slot];
-        if here < cost {
-            low = middle + 1;
-        } else {
-            high = middle;
-        }
-    }
-    low
+    order[..n].partition_point(|j| costs[*j as usize % 64] < cost)
 }
 
 // How many of the first n slots of `order` hold candidates that stay before the new one.
@@ -125,15 +89,12 @@ pub fn place<'a>(
     requires { (length plans.now ≡ 4096) × Slots order.now × (n ≤ 64) × (s ≤ 64) × (length bytes.now ≡ 64) × Ascending (slot_costs costs.now (take n order.now)) }
     ensures { result ≡ first_yes (earlier_than cost (take s bytes.now) s costs.now plans.now) (take n order.now) }
 {
-    let mut i = cheaper(costs, order, n, cost);
-    while i < n {
-        let slot = slot_at(order, i);
-        if earlier(costs, plans, slot, s, cost, bytes) {
+    for i in cheaper(costs, order, n, cost)..n {
+        if earlier(costs, plans, order[i] as usize, s, cost, bytes) {
             return i;
         }
-        i = i + 1;
     }
-    i
+    n
 }
 
 // The plan, the first s bytes, goes into slot j.
@@ -141,10 +102,7 @@ pub fn write_row(plans: &mut [u8; 4096], j: usize, s: usize, bytes: &[u8; 64])
     requires { (length plans.old ≡ 4096) × (j < 64) × (s ≤ 64) × (length bytes.now ≡ 64) }
     ensures { plans.new ≡ paste plans.old (j * 64) bytes.now s }
 {
-    let base = j * 64;
-    for i in 0..s {
-        plans[base + i] = bytes[i];
-    }
+    plans[j * 64..j * 64 + s].copy_from_slice(&bytes[..s]);
 }
 
 // The slot at place n goes to place i, and those from place i on move up by one.
@@ -152,13 +110,7 @@ pub fn move_up(order: &mut [u8; 64], i: usize, n: usize)
     requires { (length order.old ≡ 64) × (i ≤ n) × (n < 64) }
     ensures { order.new ≡ moved_up i n order.old }
 {
-    let slot = order[n];
-    let mut t = n;
-    while i < t {
-        order[t] = order[t - 1];
-        t = t - 1;
-    }
-    order[i] = slot;
+    order[i..n + 1].rotate_right(1);
 }
 
 // The first slot goes to place n - 1, and those up to there move down by one.
@@ -166,12 +118,7 @@ pub fn move_back(order: &mut [u8; 64], n: usize)
     requires { (length order.old ≡ 64) × (1 ≤ n) × (n ≤ 64) }
     ensures { order.new ≡ moved_back n order.old }
 {
-    let slot = order[0];
-    let last = n - 1;
-    for t in 0..last {
-        order[t] = order[t + 1];
-    }
-    order[last] = slot;
+    order[..n].rotate_left(1);
 }
 
 // The place of the slot to fill where n wait: that of the first free slot, or the last of k, whose candidate is not kept.
@@ -179,10 +126,7 @@ pub fn spare_place(n: usize, k: usize) -> usize
     requires { (1 ≤ k) × (n ≤ k) }
     ensures { (result < k) × Spare result n k }
 {
-    if n < k {
-        return n;
-    }
-    k - 1
+    n.min(k - 1)
 }
 
 // Do k wait, of which the last costs less? Then the candidate would not be kept.
@@ -190,12 +134,7 @@ pub fn beyond<'a>(costs: &'a [i64; 64], order: &'a [u8; 64], n: usize, k: usize,
     requires { Slots order.now × (1 ≤ k) × (k ≤ 64) }
     ensures { result ≡ beyond_of n k cost costs.now order.now }
 {
-    if n != k {
-        return false;
-    }
-    let slot = slot_at(order, k - 1);
-    let last = costs[slot];
-    last < cost
+    n == k && costs[order[k - 1] as usize] < cost
 }
 
 // The plan of slot j.
@@ -203,10 +142,7 @@ pub fn read_row(plans: &[u8; 4096], j: usize, s: usize, out: &mut [u8])
     requires { (length plans.now ≡ 4096) × (j < 64) × (s ≤ 64) × (length out.old ≡ s) }
     ensures { out.new ≡ row s plans.now j }
 {
-    let base = j * 64;
-    for i in 0..s {
-        out[i] = plans[base + i];
-    }
+    out.copy_from_slice(&plans[j * 64..j * 64 + s]);
 }
 
 // The pool of at most k in which one candidate waits: its plan is the first s bytes, and it splits at state 0, where no action is barred.
@@ -215,7 +151,7 @@ pub fn single(k: usize, s: usize, cost: i64, bytes: &[u8; 64]) -> Pool
     ensures { Formed result × (result.most ≡ k) × (entries s result ≡ record { cost = cost; plan = take s bytes.now; split = 0; mask = 0 } ∷ []) }
 {
     let order = first_order();
-    let slot = slot_at(&order, 0);
+    let slot = order[0] as usize;
     let mut costs: [i64; 64] = [0; 64];
     costs[slot] = cost;
     let mut plans: [u8; 4096] = [0; 4096];
@@ -223,8 +159,8 @@ pub fn single(k: usize, s: usize, cost: i64, bytes: &[u8; 64]) -> Pool
     Pool {
         costs: costs,
         plans: plans,
-        splits: zeros(),
-        barred: zeros(),
+        splits: [0; 64],
+        barred: [0; 64],
         order: order,
         count: 1,
         most: k,

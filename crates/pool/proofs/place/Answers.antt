@@ -10,22 +10,10 @@ use lib.ListN.{length, get_or, take}
 use lib.Seq.{length-take-le, get_or-take}
 use Rattle.std.proofs.lemmas.Int.{to_z-of_z}
 use Rattle.pool.specs.Entries.{earlier_than}
-use Rattle.pool.proofs.Moves.{slot_low}
-use Rattle.pool.proofs.Insertion.{yes_none, yes_skip, yes_here, yes_later}
+use Rattle.pool.proofs.Insertion.{yes_skip, yes_here, yes_later}
 use Rattle.pool.proofs.Ascent.{cheaper_no}
 use Rattle.pool.proofs.place.Goals as goal
 use Rattle.pool.proofs.place.Goals.{Start}
-
-pub cheaper-i-requires : goal.cheaper-i-requires
-cheaper-i-requires c =
-    let h = c.requires in
-    (h.1, h.2, h.5)
-
-pub earlier-requires : goal.earlier-requires
-earlier-requires c =
-    let l = c in
-    let s = l in
-    (s.requires.0, omega (arith, c.slot_at-slot.ensures, slot_low s.requires.1 l.loop-i.i (omega arith)), s.requires.3, s.requires.4)
 
 -- the slots that are searched
 module _ (s : goal.Start) where
@@ -51,35 +39,23 @@ pub loop-i-init : goal.loop-i-init
 loop-i-init c =
     let s = (goal.at.loop-i-init c).Start in
     let i = c.cheaper-i.result in
-    let e = rw (cost_is s) at c.cheaper-i.ensures in (
-      e.0,
-      rw (cost_is s)
-          (yes_skip (earlier_than s.args.cost (take s.args.s s.args.bytes.now) s.args.s s.args.costs.now s.args.plans.now) (xs s) i
-          (omega (arith, long s, e.0))
-          (cheaper_no s.args.costs.now s.args.plans.now (take s.args.s s.args.bytes.now) s.args.s s.args.cost (take i (xs s)) e.1)),
-    )
+    let e = rw (cost_is s) at c.cheaper-i.ensures in
+    rw (cost_is s)
+    (yes_skip (earlier_than s.args.cost (take s.args.s s.args.bytes.now) s.args.s s.args.costs.now s.args.plans.now) (xs s) i
+    (omega (arith, long s, e.0))
+    (cheaper_no s.args.costs.now s.args.plans.now (take s.args.s s.args.bytes.now) s.args.s s.args.cost (take i (xs s)) e.1))
 
 pub returns-then-earlier : goal.returns-then-earlier
 returns-then-earlier c =
-    let l = c in
-    let s = (goal.at.returns-then-earlier l).Start in
+    let s = (goal.at.returns-then-earlier c).Start in
     rw (← cost_is s)
-    (yes_here (test s) (xs s) l.loop-i.i (inside s l.loop-i.i (omega arith))
-    (ap (test s) (at s l.loop-i.i (omega arith) ∙ sym c.slot_at-slot.ensures) ∙ sym c.earlier.ensures ∙ c.if-earlier.true)
-    ∙ sym l.loop-i.invariant.1)
+    (yes_here (test s) (xs s) c.loop-i.i (inside s c.loop-i.i (omega arith))
+    (ap (test s) (at s c.loop-i.i (omega arith)) ∙ sym c.earlier.ensures ∙ c.if-earlier.true)
+    ∙ sym c.loop-i.invariant)
 
 pub loop-i-preserved : goal.loop-i-preserved
 loop-i-preserved c =
-    let l = c in
-    let s = (goal.at.loop-i-preserved l).Start in (
-      omega arith,
-      l.loop-i.invariant.1
-          ∙ yes_later (test s) (xs s) l.loop-i.i (inside s l.loop-i.i (omega arith))
-          (ap (test s) (at s l.loop-i.i (omega arith) ∙ sym c.slot_at-slot.ensures) ∙ sym c.earlier.ensures ∙ c.if-earlier.false),
-    )
-
-pub returns : goal.returns
-returns c =
-    let l = c in
-    let s = (goal.at.returns l).Start in
-    rw (← cost_is s) (sym (l.loop-i.invariant.1 ∙ yes_none (test s) (xs s) l.loop-i.i (omega (arith, long s))))
+    let s = (goal.at.loop-i-preserved c).Start in
+    c.loop-i.invariant
+    ∙ yes_later (test s) (xs s) c.loop-i.i (inside s c.loop-i.i (omega arith))
+    (ap (test s) (at s c.loop-i.i (omega arith)) ∙ sym c.earlier.ensures ∙ c.if-earlier.false)
