@@ -13,12 +13,6 @@ ghost use Rattle.costs.specs.Terms.{value_at, Bounded};
 
 use book::Sizes;
 
-fn zeros() -> [i64; 64]
-    ensures { length result ≡ 64 }
-{
-    [0; 64]
-}
-
 // The cost of taking action c of state p, where v has the costs-to-go of its next states.
 fn state_cost(b: &[i32], z: Sizes, x: &[usize; 192], p: usize, c: usize, v: &[i64; 64]) -> i64
     requires { Indexed b.now z x.now × (p < state_count b.now) × Option b.now p c × Bounded b.now p c v.now }
@@ -34,12 +28,12 @@ pub fn cost(b: &[i32], z: Sizes, x: &[usize; 192], plan: &[u8]) -> i64
     requires { Indexed b.now z x.now × T (is_policy b.now plan.now) }
     ensures { result ≡ policy_cost b.now plan.now }
 {
-    let mut v = zeros();
+    let mut v = [0i64; 64];
     for p in (0..z.s).rev() {
         let c = plan[p] as usize;
+        // 255: a plan's byte for a state that it does not reach
         if c != 255 {
-            let y = state_cost(b, z, x, p, c, &v);
-            v[p] = y;
+            v[p] = state_cost(b, z, x, p, c, &v);
         }
     }
     v[0]

@@ -1,5 +1,5 @@
 -- Assumes nothing.
-use mathlib.Core.Path.{◌≡◌, sym, ap, ◌∙◌, subst}
+use mathlib.Core.Path.{◌≡◌, refl, sym, ap, ◌∙◌, subst}
 use Prim.Native.Nat.{ℕ, ◌+◌, ◌-◌, ◌<◌}
 use native.Mathlib.Omega.{arith}
 use lib.ListN.{length, get_or, length-set}
@@ -22,13 +22,7 @@ use Rattle.policy_cost.proofs.cost.Goals.{In-loop-p}
 
 pub loop-p-init : goal.loop-p-init
 loop-p-init c =
-    let s = c in
-    let ws = s.args.b.now in
-    let e = s.requires.0.checked.sizes.s_is in (
-      omega (arith, e),
-      c.zeros-v.ensures,
-      λ q h i. absurd (omega (arith, e, reached-inside ws s.requires.0.checked.ok s.args.plan.now s.requires.1 q i)),
-    )
+    (refl, λ q h i. absurd (omega (arith, c.requires.0.checked.sizes.s_is, reached-inside c.args.b.now c.requires.0.checked.ok c.args.plan.now c.requires.1 q i)))
 
 -- in a turn of the loop
 module _ (t : goal.In-loop-p) where
@@ -45,7 +39,7 @@ module _ (t : goal.In-loop-p) where
   ok = t.requires.0.checked.ok
 
   state : p < state_count ws
-  state = omega (arith, t.loop-p-test.true, t.loop-p.invariant.0)
+  state = omega (arith, t.loop-p-test.true, t.requires.0.checked.sizes.s_is)
 
   small : p < 64
   small = omega (arith, state, (accepted ws ok).sizes.s_high)
@@ -60,7 +54,7 @@ module _ (t : goal.In-loop-p) where
   later : Has ws bs (p + 1) t.loop-p.v
   later =
       let e : t.loop-p.p ≡ p + 1 = omega (arith, t.loop-p-test.true) in
-      subst (λ (n : ℕ). Has ws bs n t.loop-p.v) e t.loop-p.invariant.2
+      subst (λ (n : ℕ). Has ws bs n t.loop-p.v) e t.loop-p.invariant.1
 
   -- it takes an action there
   takes : (get_or bs p 0 ≡ 255 → ⊥) → byte_at bs p ≡ 255 → ⊥
@@ -69,9 +63,9 @@ module _ (t : goal.In-loop-p) where
 pub bounds-plan-p : goal.bounds-plan-p
 bounds-plan-p c = long (goal.at.bounds-plan-p c).In-loop-p
 
-pub state_cost-y-requires : goal.state_cost-y-requires
-state_cost-y-requires c =
-    let t = (goal.at.state_cost-y-requires c).In-loop-p in
+pub state_cost-requires : goal.state_cost-requires
+state_cost-requires c =
+    let t = (goal.at.state_cost-requires c).In-loop-p in
     let h = takes t c.if-c-ne255.true in (
       t.requires.0,
       state t,
@@ -90,29 +84,25 @@ pub loop-p-preserved-then-c-ne255 : goal.loop-p-preserved-then-c-ne255
 loop-p-preserved-then-c-ne255 c =
     let t = (goal.at.loop-p-preserved-then-c-ne255 c).In-loop-p in
     let h = takes t c.if-c-ne255.true in
-    let y = c.state_cost-y.result in
+    let y = c.state_cost.result in
     let v = t.loop-p.v in (
-      omega (arith, state t),
-      rw length-set t.loop-p.invariant.1,
-      rw (read64 y c.state_cost-y.type_inv)
-          (holds_more (ws t) (ok t) (Reached (ws t) (bs t)) (value (ws t) (bs t)) (p t) v y (omega (arith, small t, t.loop-p.invariant.1))
-          (λ i. c.state_cost-y.ensures
+      rw length-set t.loop-p.invariant.0,
+      rw (read64 y c.state_cost.type_inv)
+          (holds_more (ws t) (ok t) (Reached (ws t) (bs t)) (value (ws t) (bs t)) (p t) v y (omega (arith, small t, t.loop-p.invariant.0))
+          (λ i. c.state_cost.ensures
           ∙ ap (λ (d : ℕ). action_cost (scale (ws t)) (togo (ws t) (p t)) (value_at v) (action (ws t) (p t) d)) (sym (byte t))
           ∙ step (ws t) (ok t) (bs t) t.requires.1 (p t) (state t) v (later t) h) (later t)),
     )
 
 pub loop-p-preserved : goal.loop-p-preserved
 loop-p-preserved c =
-    let t = (goal.at.loop-p-preserved c).In-loop-p in (
-      omega (arith, state t),
-      t.loop-p.invariant.1,
-      skip (ws t) (ok t) (bs t) t.requires.1 (p t) (state t) t.loop-p.v (later t) (byte t ∙ c.if-c-ne255.false),
-    )
+    let t = (goal.at.loop-p-preserved c).In-loop-p in
+    (t.loop-p.invariant.0, skip (ws t) (ok t) (bs t) t.requires.1 (p t) (state t) t.loop-p.v (later t) (byte t ∙ c.if-c-ne255.false))
 
 pub returns : goal.returns
 returns c =
     let z : c.loop-p.p ≡ 0 = omega (arith, c.loop-p-test.false) in
     let e : value_at c.loop-p.v 0 ≡ policy_cost c.args.b.now c.args.plan.now
     = whole c.args.b.now c.requires.0.checked.ok c.args.plan.now c.requires.1 c.loop-p.v
-    (subst (λ (n : ℕ). Has c.args.b.now c.args.plan.now n c.loop-p.v) z c.loop-p.invariant.2) in
+    (subst (λ (n : ℕ). Has c.args.b.now c.args.plan.now n c.loop-p.v) z c.loop-p.invariant.1) in
     search (rules, e)
