@@ -10,6 +10,7 @@ use refusal::Refusal;
 use reservation::{Answer, Desk};
 
 // Opening by value: the record's questions are asked.
+#[tactic(auto, using(crate::proofs::Calls::calls), unfolding(reservation::specs::Reservations::opening))]
 pub fn opened(desk: Desk, record: &[u8]) -> Answer
     ensures { result ≡ opening desk «record».now }
 {
@@ -20,6 +21,7 @@ pub fn opened(desk: Desk, record: &[u8]) -> Answer
 }
 
 // Holds a rank for a rider, whose earlier hold is dropped. A rank that is listed is a byte, as k is one.
+#[tactic(auto, using(crate::proofs::Calls::calls), unfolding(reservation::specs::Reservations::asking))]
 pub fn ask(desk: &mut Desk, rider: usize, rank: usize) -> Result<(), Refusal>
     ensures { reply (number_in result) desk.new ≡ asking desk.old rider rank }
 {
@@ -30,6 +32,7 @@ pub fn ask(desk: &mut Desk, rider: usize, rank: usize) -> Result<(), Refusal>
 }
 
 // The rank that the rider holds becomes theirs.
+#[tactic(auto, using(crate::proofs::Calls::calls), unfolding(reservation::specs::Reservations::committing))]
 pub fn commit(desk: &mut Desk, rider: usize) -> Result<(), Refusal>
     ensures { reply (number_in result) desk.new ≡ committing desk.old rider }
 {
@@ -40,6 +43,7 @@ pub fn commit(desk: &mut Desk, rider: usize) -> Result<(), Refusal>
 }
 
 // Drops what the rider holds, and never a commitment.
+#[tactic(auto, using(crate::proofs::Calls::calls), unfolding(reservation::specs::Reservations::cancelling))]
 pub fn cancel(desk: &mut Desk, rider: usize) -> Result<(), Refusal>
     ensures { reply (number_in result) desk.new ≡ cancelling desk.old rider }
 {
@@ -49,11 +53,15 @@ pub fn cancel(desk: &mut Desk, rider: usize) -> Result<(), Refusal>
 }
 
 // Opens the desk, also anew, with the k of a record that is accepted.
+#[tactic(auto, using(crate::proofs::Calls::calls), unfolding(reservation::specs::Reservations::opening))]
 pub fn open(desk: &mut Desk, record: &[u8]) -> Result<(), Refusal>
     ensures { reply (number_in result) desk.new ≡ opening desk.old «record».now }
 {
     let a = accept::accept(record)?;
-    *desk = desk.opening(Ok(()), a.k as u8).desk;
+    *desk = Desk {
+        k: a.k as u8,
+        ..Desk::fresh()
+    };
     Ok(())
 }
 
