@@ -5,69 +5,24 @@
 ghost use Rattle.std.specs.Prelude.{◌≡◌, [], ◌∷◌, ◌+◌, ◌*◌, ◌≤◌, ◌<◌, length, take};
 ghost use Rattle.std.specs.Int.Signed.{lt_z};
 ghost use Rattle.model.specs.Lists.{first_where};
-ghost use Rattle.laws.specs.Shift.{shifted_from};
-ghost use Rattle.best_kept.specs.Placed.{Ascends, opened, last_place, Placed};
+ghost use Rattle.best_kept.specs.Placed.{Ascends, opened, Placed};
 
-// How many of the first n costs are at most `cost`. They ascend, so it looks from the last on.
+// How many of the first n costs are at most `cost`. They ascend.
 fn place(costs: &[i64], n: usize, cost: i64) -> usize
     requires { (n ≤ 64) × (n ≤ length costs.now) × Ascends (take n costs.now) }
     ensures { result ≡ first_where (lt_z cost) (take n costs.now) }
 {
-    let mut i = n;
-    while 0 < i {
-        let here = costs[i - 1];
-        if here <= cost {
-            return i;
-        }
-        i = i - 1;
-    }
-    0
+    costs[..n].partition_point(|x| *x <= cost)
 }
 
-// The cost goes to place `at`, and those from there to place `to` move up by one; the one at place `to` is gone.
-fn open_costs(costs: &mut [i64], at: usize, to: usize, cost: i64)
-    requires { (at ≤ to) × (to < 64) × (to < length costs.old) }
-    ensures { costs.new ≡ opened at to (cost ∷ []) costs.old }
+// The new elements go to the places from `at` on, and those from there to place `to` move up by as many; those that would stand after them are gone.
+fn open<T: Copy>(row: &mut [T], at: usize, to: usize, new: &[T])
+    requires { (at ≤ to) × (to + length new.now ≤ length row.old) }
+    ensures { row.new ≡ opened at to new.now row.old }
 {
-    let mut t = to;
-    while at < t {
-        costs[t] = costs[t - 1];
-        t = t - 1;
-    }
-    costs[at] = cost;
-}
-
-// Moves the bytes from place `at` to place `to` up by s places.
-fn move_bytes(plans: &mut [u8], at: usize, to: usize, s: usize)
-    requires { (at ≤ to) × (to + s ≤ length plans.old) × (1 ≤ s) }
-    ensures { plans.new ≡ shifted_from s plans.old to at }
-{
-    let mut t = to;
-    while at < t {
-        t = t - 1;
-        plans[t + s] = plans[t];
-    }
-}
-
-// The policy's bytes go to the places from `at` on, and those from there to place `to` move up by as many.
-fn open_plans(plans: &mut [u8], at: usize, to: usize, plan: &[u8])
-    requires { (at ≤ to) × (to + length plan.now ≤ length plans.old) × (1 ≤ length plan.now) }
-    ensures { plans.new ≡ opened at to plan.now plans.old }
-{
-    let s = plan.len();
-    move_bytes(plans, at, to, s);
-    bytes_io::write_bytes(plans, at, plan, s);
-}
-
-// The place of the last where n are listed and one more goes in: that of the n listed ones that is not kept, where k are.
-fn last_place(n: usize, k: usize) -> usize
-    requires { 1 ≤ k }
-    ensures { result ≡ last_place n k }
-{
-    if n < k {
-        return n;
-    }
-    k - 1
+    let end = at + new.len();
+    row.copy_within(at..to, end);
+    row[at..end].copy_from_slice(new);
 }
 
 // The policy goes in among n, of which at most k are kept; gives how many there are then.
@@ -86,9 +41,10 @@ pub fn keep(
     if k <= i {
         return n;
     }
-    let last = last_place(n, k);
+    // the place of the last then: the last of n is gone where they are k
+    let last = n.min(k - 1);
     let s = plan.len();
-    open_costs(costs, i, last, cost);
-    open_plans(plans, i * s, last * s, plan);
+    open(costs, i, last, &[cost]);
+    open(plans, i * s, last * s, plan);
     last + 1
 }
