@@ -1,24 +1,23 @@
 -- Numbers as bytes: what is written reads back, and what is read is what would be written.
 -- Assumes nothing.
-use mathlib.Core.Path.{◌≡◌, refl, sym, ap, ◌∙◌}
+use mathlib.Core.Path.{◌≡◌, refl, ap, ◌∙◌}
 use mathlib.Core.Bool.{Bool, true, false, cond}
 use mathlib.Core.List.{List, [], ◌∷◌, ◌++◌, append_assoc}
 use Prim.Native.Nat.{ℕ, zero, suc, ◌+◌, ◌*◌, ◌-◌, ◌^◌, ◌/◌, ◌%◌, ◌≤◌, ◌<◌}
-use native.Mathlib.Nat.{pow-succ', pow-suc, one-le-pow, mul_assoc, mul-zero, mul-suc, mul-le-mul_left, div-lt_iff_lt-mul, mod-add-div, suc_inj, zero-add}
+use native.Mathlib.Nat.{pow-suc, mul-zero, mul-suc, mul-le-mul_left, div-lt_iff_lt-mul, mod-add-div, suc_inj}
 use native.Mathlib.Numerals.{add-one}
 use native.Mathlib.Omega.{arith}
-use borrow.Author.Tests.{lt-ltb, le-ltb, ltb-true}
-use lib.Pow.{pow-add}
-use lib.Dec.{T, ltb}
-use lib.IntN.{ℤ, pos, negsuc, nat_abs, ◌-ℤ◌}
-use lib.Signed.{mag, lt_z, non_neg}
+use borrow.Author.Tests.{lt-ltb, le-ltb}
+use lib.Dec.{ltb}
+use lib.IntN.{ℤ, pos, negsuc}
+use lib.Signed.{mag}
 use lib.ListN.{length, take, drop, get_or}
 use lib.Seq.{take_at, drop_at, drop-drop}
 use Rattle.model.specs.Lists.{for_each}
 use Rattle.model.specs.Bytes.{bytes, signed_bytes, from_bytes, signed, words_of}
 use Rattle.laws.specs.Members.{Every}
-use Rattle.bytes_io.specs.Slices.{written, complement, signed_from}
-use Rattle.bytes_io.proofs.Parts.{part_step, Filling, fill_start, fill_part, fill_end, parts_from, parts_start, parts_step, parts-end}
+use Rattle.bytes_io.specs.Slices.{written, signed_from}
+use Rattle.bytes_io.proofs.Parts.{Filling, fill_start, fill_part, fill_end, parts_from, parts_start, parts_step, parts-end}
 
 -- ---- lengths
 
@@ -42,10 +41,6 @@ read_bytes zero x h = omega arith
 read_bytes (suc n) x h =
     let q : x / 256 < 256 ^ n = (div-lt_iff_lt-mul {k = 256} {x = x} {y = 256 ^ n} (omega arith)).1 (rw pow-suc at h) in
     rw (read_bytes n (x / 256) q) (mod-add-div x 256)
-
--- eight bytes are the four low ones, then the four high ones
-pub halves : (u : ℕ) → bytes 4 u ++ bytes 4 (u / 4294967296) ≡ bytes 8 u
-halves u = let e : u / 4294967296 ≡ u / 256 / 256 / 256 / 256 = omega arith in ap (λ (x : ℕ). bytes 4 u ++ bytes 4 x) e
 
 -- a list of bytes
 abbrev pub Bytes : List ℕ → Type 0
@@ -75,57 +70,7 @@ bytes_read (suc n) (b ∷ bs) e h =
     let d : (b + 256 * from_bytes bs) / 256 ≡ from_bytes bs = omega (arith, h.0) in
     rw (m, d, bytes_read n bs (suc_inj e) h.1)
 
--- four bytes of a slice
-pub four_bytes : (r : List ℕ) (at : ℕ) → at + 4 ≤ length r
-    → from_bytes (take 4 (drop at r)) ≡ get_or r at 0 + 256 * (get_or r (at + 1) 0 + 256 * (get_or r (at + 2) 0 + 256 * get_or r (at + 3) 0))
-four_bytes r at h =
-    rw (
-      part_step r 0 4 at (at + 1) 0 (omega arith) (omega arith) refl,
-      part_step r 1 4 (at + 1) (at + 2) 0 (omega arith) (omega arith) (omega arith),
-      part_step r 2 4 (at + 2) (at + 3) 0 (omega arith) (omega arith) (omega arith),
-      part_step r 3 4 (at + 3) (at + 4) 0 (omega arith) (omega arith) (omega arith),
-    )
-    (omega arith)
-
 -- ---- signed numbers
-
--- `-1 - n`
-pub below : (n : ℕ) → negsuc 0 -ℤ pos n ≡ negsuc n
-below zero = refl
-below (suc n) = ap (λ (k : ℕ). negsuc (suc k)) (zero-add n)
-
--- `-1 - x` of a number below 0
-pub above : (x : ℤ) → lt_z x (pos 0) ≡ true → negsuc 0 -ℤ x ≡ pos (mag x)
-above (pos n) e = absurd (omega (arith, ltb-true n 0 e))
-above (negsuc n) e = let h : suc n - 1 ≡ n = omega arith in rw (le-ltb (suc n) 1 (omega arith), h)
-
-pub complement_neg : (x : ℤ) → lt_z x (pos 0) ≡ true → 18446744073709551615 - mag x ≡ complement x
-complement_neg (pos n) e = absurd (omega (arith, ltb-true n 0 e))
-complement_neg (negsuc n) e = refl
-
-pub complement-pos : (x : ℤ) → T (non_neg x) → nat_abs x ≡ complement x
-complement-pos (pos n) t = refl
-complement-pos (negsuc n) t = absurd t
-
--- what lies above the n low bytes is not written
-bytes_low : (n y q : ℕ) → bytes n (y + 256 ^ n * q) ≡ bytes n y
-bytes_low zero y q = refl
-bytes_low (suc n) y q =
-    let up : 256 ^ suc n * q ≡ 256 * (256 ^ n * q) = rw (pow-succ', mul_assoc) in
-    let m : (y + 256 * (256 ^ n * q)) % 256 ≡ y % 256 = omega arith in
-    let d : (y + 256 * (256 ^ n * q)) / 256 ≡ y / 256 + 256 ^ n * q = omega arith in
-    rw (up, m, d, bytes_low n (y / 256) q)
-
--- the low bytes of the complement are those of the signed number
-pub complement-bytes : (n : ℕ) (z : ℤ) → n ≤ 8 → mag z < 256 ^ n → bytes n (complement z) ≡ signed_bytes n z
-complement-bytes n (pos x) l h = refl
-complement-bytes n (negsuc x) l h =
-    let k : n + (8 - n) ≡ 8 = omega arith in
-    let all : 256 ^ n * 256 ^ (8 - n) ≡ 256 ^ 8 = sym (pow-add 256 n (8 - n)) ∙ ap (λ (m : ℕ). 256 ^ m) k in
-    let q = 256 ^ (8 - n) - 1 in
-    let p : 256 ^ (8 - n) ≡ suc q = omega (arith, one-le-pow (8 - n) 256 (omega arith)) in
-    let e : 18446744073709551615 - x ≡ 256 ^ n - suc x + 256 ^ n * q = omega (arith, all, ap (λ (m : ℕ). 256 ^ n * m) p, mul-suc (256 ^ n) q) in
-    ap (bytes n) e ∙ bytes_low n (256 ^ n - suc x) q
 
 -- what n bytes hold in two's complement reads back
 pub read_half : (n half : ℕ) → 256 ^ n ≡ 2 * half → (z : ℤ) → mag z < half → signed_from half (from_bytes (signed_bytes n z)) ≡ z

@@ -88,16 +88,6 @@ module _ {A : Type 0} (o₀ : List A) (at n : ℕ) (all : List A) where
     pub fill_end : n ≤ p → rest ≡ [] → o ≡ written o₀ at n all
     fill_end l r = let z : n - p ≡ 0 = omega arith in sym (f.whole ∙ rw (z, r) (written_none o (at + p)))
 
--- four elements, one after another
-pub four : {A : Type 0} (o : List A) (at : ℕ) (a b c d : A) → at + 4 ≤ length o
-    → set (set (set (set o at a) (at + 1) b) (at + 2) c) (at + 3) d ≡ written o at 4 (a ∷ b ∷ c ∷ d ∷ [])
-four o at a b c d h =
-    let all = a ∷ b ∷ c ∷ d ∷ [] in
-    let f₁ = fill_one o at 4 all h (fill_start o at 4 all) a (b ∷ c ∷ d ∷ []) {i = at} (omega arith) (omega arith) refl in
-    let f₂ = fill_one o at 4 all h f₁ b (c ∷ d ∷ []) {i = at + 1} refl (omega arith) refl in
-    let f₃ = fill_one o at 4 all h f₂ c (d ∷ []) {i = at + 2} refl (omega arith) refl in
-    fill_end o at 4 all h (fill_one o at 4 all h f₃ d [] {i = at + 3} refl (omega arith) refl) (omega arith) refl
-
 -- the parts of the elements from index i on, up to index k
 module _ {A B : Type 0} (f : A → List B) (xs : List A) (k : ℕ) where
   abbrev pub parts_from : ℕ → List B

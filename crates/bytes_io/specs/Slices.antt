@@ -1,4 +1,4 @@
--- A slice with a part written over, and two's complement: the unsigned number whose bytes say a signed one, and back.
+-- A slice with a part written over, and two's complement read back.
 -- Assumes nothing.
 use Rattle.std.specs.Prelude.{List, ◌++◌, ℕ, ◌+◌, ◌*◌, ◌-◌, cond, ℤ, pos, negsuc, ltb, take, drop}
 
@@ -6,11 +6,6 @@ module _ {A : Type 0} where
   -- the slice `o` with the n elements xs from index `at` on
   abbrev pub written : List A → ℕ → ℕ → List A → List A
   written o at n xs = take at o ++ xs ++ drop (at + n) o
-
--- two's complement in 64 bits
-abbrev pub complement : ℤ → ℕ
-complement (pos x) = x
-complement (negsuc x) = 18446744073709551615 - x
 
 -- the signed number that an unsigned one below 2 × half says: from half on it is below 0
 abbrev pub signed_from : ℕ → ℕ → ℤ

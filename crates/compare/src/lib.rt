@@ -9,10 +9,9 @@ pub fn first_difference(a: &[u8], at: usize, b: &[u8], n: usize) -> usize
     requires { (at + n ≤ length a.now) × (n ≤ length b.now) }
     ensures { (result ≡ first_difference (take n (drop at a.now)) (take n b.now)) × (result ≤ n) }
 {
-    for i in 0..n {
-        if a[at + i] != b[i] {
-            return i;
-        }
-    }
-    n
+    a[at..at + n]
+        .iter()
+        .zip(&b[..n])
+        .position(|(x, y)| x != y)
+        .unwrap_or(n)
 }

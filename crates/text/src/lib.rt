@@ -7,15 +7,10 @@ ghost use Rattle.model.specs.Lists.{for_each};
 ghost use Rattle.model.specs.Page.{decimal, signed_decimal, choice_text};
 ghost use Rattle.text.specs.Text.{Appended, line_text};
 
-// A number without its sign. The lowest has no positive counterpart, so one is added only after the cast.
 pub fn magnitude(x: i64) -> u64
     ensures { result ≡ nat_abs x }
 {
-    if x < 0 {
-        let d = -1 - x;
-        return (d as u64) + 1;
-    }
-    x as u64
+    x.unsigned_abs()
 }
 
 pub fn put_byte(out: &mut [u8], at: usize, x: u8) -> usize
@@ -30,8 +25,9 @@ pub fn put_text(out: &mut [u8], at: usize, text: &[u8]) -> usize
     requires { at + length text.now ≤ length out.old }
     ensures { Appended out.old at text.now out.new result }
 {
-    bytes_io::write_bytes(out, at, text, text.len());
-    at + text.len()
+    let end = at + text.len();
+    out[at..end].copy_from_slice(text);
+    end
 }
 
 // A number has at most 20 digits.
@@ -49,10 +45,10 @@ pub fn put_signed(out: &mut [u8], at: usize, x: i64) -> usize
     ensures { Appended out.old at (signed_decimal x) out.new result × (result ≤ at + 21) }
 {
     if x < 0 {
-        let next = put_byte(out, at, 45);
-        return put_number(out, next, magnitude(x));
+        let next = put_byte(out, at, b'-');
+        return put_number(out, next, x.unsigned_abs());
     }
-    put_number(out, at, magnitude(x))
+    put_number(out, at, x.unsigned_abs())
 }
 
 // A space, then the choice, or `-` where the state is not reached.
@@ -60,11 +56,11 @@ fn put_choice(out: &mut [u8], at: usize, x: u8) -> usize
     requires { at + 21 ≤ length out.old }
     ensures { Appended out.old at (choice_text x) out.new result × (result ≤ at + 21) }
 {
-    let next = put_byte(out, at, 32);
+    let next = put_byte(out, at, b' ');
     if x == 255 {
-        return put_byte(out, next, 45);
+        return put_byte(out, next, b'-');
     }
-    put_number(out, next, bytes_io::wide(x))
+    put_number(out, next, x as u64)
 }
 
 fn put_choices(out: &mut [u8], at: usize, plan: &[u8]) -> usize
@@ -72,8 +68,8 @@ fn put_choices(out: &mut [u8], at: usize, plan: &[u8]) -> usize
     ensures { Appended out.old at (for_each choice_text plan.now) out.new result × (result ≤ at + 21 * length plan.now) }
 {
     let mut p = at;
-    for i in 0..plan.len() {
-        p = put_choice(out, p, plan[i]);
+    for x in plan {
+        p = put_choice(out, p, *x);
     }
     p
 }
@@ -84,8 +80,8 @@ pub fn put_line(out: &mut [u8], at: usize, rank: u64, cost: i64, plan: &[u8]) ->
     ensures { Appended out.old at (line_text rank cost plan.now) out.new result × (result ≤ at + 43 + 21 * length plan.now) }
 {
     let a = put_number(out, at, rank);
-    let b = put_byte(out, a, 32);
+    let b = put_byte(out, a, b' ');
     let c = put_signed(out, b, cost);
     let d = put_choices(out, c, plan);
-    put_byte(out, d, 10)
+    put_byte(out, d, b'\n')
 }

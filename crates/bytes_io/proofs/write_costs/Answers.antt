@@ -1,31 +1,23 @@
+-- Each cost's bytes are stored after those before it.
 -- Assumes nothing.
+use Rattle.std.proofs.Common.{rules}
 use native.Mathlib.Omega.{arith}
 use lib.IntN.{pos}
-use lib.ListN.{get_or}
+use mathlib.Core.Path.{◌≡◌}
+use lib.ListN.{length, take, get_or}
+use lib.Seq.{length-take-le, get_or-take}
 use mir.Facts.{to_z-of_z}
 use mir.Syntax.{w64}
 use mir.Val.{SFits}
-use Rattle.bytes_io.proofs.Numbers.{writing_start, writing_next, writing_end}
+use Rattle.bytes_io.proofs.Numbers.{writing_next}
 use Rattle.bytes_io.proofs.write_costs.Goals as goal
-
-pub loop-i-init : goal.loop-i-init
-loop-i-init c = let s = c.args in writing_start 8 s.costs.now s.k s.out.now s.at
 
 pub loop-i-preserved : goal.loop-i-preserved
 loop-i-preserved c =
-    let y = c.write_cost in
-    let d = c in
-    let l = d.loop-i in
-    let s = d in
-    let f : SFits w64 (get_or s.args.costs.now l.i (pos 0)) = record { sfits = omega arith } in
-    writing_next 8 s.args.costs.now s.args.k s.args.out.now s.args.at s.requires.0 l.i l.invariant (omega arith) (omega arith)
-    (rw (to_z-of_z f) at y.ensures)
-
-pub shape_of-out : goal.shape_of-out
-shape_of-out c = c.loop-i.invariant.long
-
-pub returns : goal.returns
-returns c =
+    let s = c.args in
     let l = c.loop-i in
-    let s = c in
-    writing_end 8 s.args.costs.now s.args.k s.args.out.now s.args.at s.requires.0 l.i l.invariant (omega arith)
+    let few : length (take s.k s.costs.now) ≡ s.k = length-take-le s.k s.costs.now c.requires.1 in
+    let here : get_or (take s.k s.costs.now) l.i (pos 0) ≡ get_or s.costs.now l.i (pos 0) = get_or-take s.k s.costs.now l.i (pos 0) (omega arith) in
+    let f : SFits w64 (get_or (take s.k s.costs.now) l.i (pos 0)) = search rules in
+    writing_next 8 s.costs.now s.k s.out.now s.at c.requires.0 l.i l.invariant (omega arith) c.requires.1
+    (rw (to_z-of_z f, here) at c.write_cost.ensures)

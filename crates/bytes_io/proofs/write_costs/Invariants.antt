@@ -1,6 +1,5 @@
 -- The costs before cost i are written.
 -- Assumes nothing.
-use Prim.Native.Nat.{◌-◌}
 use Rattle.bytes_io.proofs.Numbers.{Writing}
 use Rattle.bytes_io.proofs.write_costs.Given as goal
 

@@ -1,59 +1,51 @@
+-- The place of the first pair of unlike bytes is where the runs first differ.
 -- Assumes nothing.
-use mathlib.Core.Path.{◌≡◌, sym, ap, ◌∙◌}
-use mathlib.Core.List.{List, []}
-use Prim.Native.Nat.{ℕ, suc, ◌+◌, ◌<◌}
-use native.Mathlib.Nat.{zero-add}
-use native.Mathlib.Numerals.{add-one}
-use native.Mathlib.Omega.{arith}
-use lib.ListN.{length, get_or, take, drop, length-drop, drop_of_length-le}
-use lib.Seq.{length-take-le, get_or-take, get_or-drop}
+use Rattle.std.proofs.Common.{◌≡◌, ◌+◌, ◌-◌, ◌≤◌, ℕ, suc, Bool, true, false, not, eqb, ltb, cond, List, [], ◌∷◌, length, take, drop, refl, sym, ap, ◌∙◌, arith, rules, length-drop, Option, Some, None, unwrap_or}
+use Rattle.std.proofs.Math.Nat.{add-sub_cancel_left, suc_inj}
+use Rattle.std.proofs.Math.Seq.{length-take-le}
+use Rattle.std.specs.List.{zip, position_or_len}
+use Rattle.std.specs.Slice.Iter.{iter_rest}
+use Rattle.std.proofs.lemmas.Bool.{ltb-false}
+use Rattle.std.proofs.lemmas.Iterator.{YieldsList-from_slice, YieldsList-from_zip}
+use Rattle.std.proofs.lemmas.Iterator.Search.{position_from_yields_List}
+use Rattle.std.proofs.lemmas.List.Sums.{prefix_len-le-length}
+use Rattle.std.proofs.lemmas.Slice.Zip.{length-zip}
+use borrow.Author.Tests.{tests}
 use Rattle.model.specs.Order.{first_difference}
-use Rattle.laws.proofs.Difference.{drop_equal, drop_differ}
 use Rattle.compare.proofs.first_difference.Goals as goal
-use Rattle.compare.proofs.first_difference.Goals.{Start}
 
--- the two runs
-module _ (s : goal.Start) where
-  abbrev one : List ℕ
-  one = take s.args.n (drop s.args.at s.args.a.now)
+abbrev unlike : ℕ × ℕ → Bool
+unlike p = not (eqb p.0 p.1)
 
-  abbrev other : List ℕ
-  other = take s.args.n s.args.b.now
+place : (xs ys : List ℕ) → length xs ≡ length ys → position_or_len unlike (zip xs ys) ≡ first_difference xs ys
+place [] [] e = refl
+place [] (y ∷ ys) e = absurd (omega arith)
+place (x ∷ xs) [] e = absurd (omega arith)
+place (x ∷ xs) (y ∷ ys) e = go (eqb x y) (place xs ys (suc_inj e))
+  where
+    go : (t : Bool) → position_or_len unlike (zip xs ys) ≡ first_difference xs ys
+        → cond (not (not t)) (1 + position_or_len unlike (zip xs ys)) 0 ≡ cond t (suc (first_difference xs ys)) 0
+    go true p = rw p (omega arith)
+    go false p = refl
 
-  one_long : length one ≡ s.args.n
-  one_long = length-take-le s.args.n (drop s.args.at s.args.a.now) (simp length-drop (omega arith))
-
-  other_long : length other ≡ s.args.n
-  other_long = length-take-le s.args.n s.args.b.now (omega arith)
-
-  module _ (i : ℕ) (h : i < s.args.n) where
-    byte_one : get_or one i 0 ≡ get_or s.args.a.now (s.args.at + i) 0
-    byte_one = get_or-take s.args.n (drop s.args.at s.args.a.now) i 0 h ∙ get_or-drop s.args.at s.args.a.now i 0
-
-    byte_other : get_or other i 0 ≡ get_or s.args.b.now i 0
-    byte_other = get_or-take s.args.n s.args.b.now i 0 h
-
-    equal : get_or s.args.a.now (s.args.at + i) 0 ≡ get_or s.args.b.now i 0
-        → first_difference (drop i one) (drop i other) ≡ suc (first_difference (drop (i + 1) one) (drop (i + 1) other))
-    equal e = rw (add-one i) (drop_equal 0 one other i (omega (arith, one_long)) (omega (arith, other_long)) (byte_one ∙ e ∙ sym byte_other))
-
-    differ : (get_or s.args.a.now (s.args.at + i) 0 ≡ get_or s.args.b.now i 0 → ⊥) → first_difference (drop i one) (drop i other) ≡ 0
-    differ e =
-        drop_differ 0 one other i (omega (arith, one_long)) (omega (arith, other_long)) (λ q. e (sym byte_one ∙ q ∙ byte_other))
-
-pub loop-i-init : goal.loop-i-init
-loop-i-init c = sym (zero-add _)
-
-pub returns-then-a-at : goal.returns-then-a-at
-returns-then-a-at c =
-    (omega (arith, c.loop-i.invariant, differ (goal.at.returns-then-a-at c).Start c.loop-i.i (omega arith) c.if-a-at.true), omega arith)
-
-pub loop-i-preserved : goal.loop-i-preserved
-loop-i-preserved c =
-    omega (arith, c.loop-i.invariant, equal (goal.at.loop-i-preserved c).Start c.loop-i.i (omega arith) c.if-a-at.false)
+counted : (n p : ℕ) {r : Option ℕ} → p ≤ n → r ≡ cond (ltb p n) (Some p) None → unwrap_or r n ≡ p
+counted n p h e = rw e (go (ltb p n) refl)
+  where
+    go : (t : Bool) → ltb p n ≡ t → unwrap_or (cond t (Some p) None) n ≡ p
+    go true q = refl
+    go false q = omega (arith, ltb-false p n q)
 
 pub returns : goal.returns
 returns c =
-    let s = (goal.at.returns c).Start in
-    let e : drop c.loop-i.i (one s) ≡ [] = drop_of_length-le (one s) {i = c.loop-i.i} (omega (arith, one_long s)) in
-    (omega (arith, c.loop-i.invariant, ap (λ (bs : List ℕ). first_difference bs (drop c.loop-i.i (other s))) e), omega arith)
+    let a : List ℕ = take (c.args.at + c.args.n - c.args.at) (drop c.args.at c.args.a.now) in
+    let b : List ℕ = take c.args.n c.args.b.now in
+    let first : iter_rest c.zip.result.a ≡ a = ap iter_rest c.zip.ensures.first ∙ c.iter.ensures.rest in
+    let r = position_from_yields_List unlike c.position.new.self _ c.position.result c.position.ensures.ran
+    (YieldsList-from_zip {s = c.zip.result} (YieldsList-from_slice a first) (YieldsList-from_slice b c.zip.ensures.second.0)) (λ x b q k. search (rules, tests)) in
+    let here : c.args.at + c.args.n - c.args.at ≡ c.args.n = add-sub_cancel_left c.args.at c.args.n in
+    let a_long : length a ≡ c.args.n = rw here (length-take-le c.args.n (drop c.args.at c.args.a.now) (simp length-drop (omega arith))) in
+    let b_long : length b ≡ c.args.n = length-take-le c.args.n c.args.b.now (omega arith) in
+    let long : length (zip a b) ≡ c.args.n = omega (arith, length-zip a b) in
+    let most : position_or_len unlike (zip a b) ≤ c.args.n = omega (arith, prefix_len-le-length (λ p. not (unlike p)) (zip a b)) in
+    let e : c.unwrap_or.result ≡ position_or_len unlike (zip a b) = c.unwrap_or.ensures ∙ counted c.args.n _ most (rw long at r) in
+    (e ∙ place a b (a_long ∙ sym b_long) ∙ rw here, omega arith)

@@ -8,12 +8,6 @@ use Rattle.text.proofs.put_line.Goals as goal
 
 pub returns : goal.returns
 returns c =
-    let y = c in
-    let h = y in
-    let g = h in
-    let b = g in
-    let n = b in
-    let s = n in
-    let t : Appended b.put_byte-b.new.out b.put_byte-b.result (signed_decimal s.args.cost) g.put_signed-c.new.out g.put_signed-c.result
-    = rw (to_z-of_z s.ranges.cost) at g.put_signed-c.ensures.0 in
-    (joined (joined (joined n.put_number-a.ensures.0 (joined b.put_byte-b.ensures t)) h.put_choices-d.ensures.0) y.put_byte.ensures, omega arith)
+    let cost : Appended c.put_byte-b.new.out c.put_byte-b.result (signed_decimal c.args.cost) c.put_signed-c.new.out c.put_signed-c.result
+    = rw (to_z-of_z c.ranges.cost) at c.put_signed-c.ensures.0 in
+    (joined (joined (joined c.put_number-a.ensures.0 (joined c.put_byte-b.ensures cost)) c.put_choices-d.ensures.0) c.put_byte.ensures, omega arith)
