@@ -28,14 +28,7 @@ fn avoids(b: &[i32], a: Lines, p: usize, c: usize, dead: u64) -> bool
     requires { LinesOf b.now p c a }
     ensures { result ≡ avoids dead (action b.now p c).transitions }
 {
-    let r = a.r;
-    for i in 0..r {
-        let q = lines::next(b, a, p, c, i);
-        if dead.has(q) {
-            return false;
-        }
-    }
-    true
+    (0..a.r).all(|i| !dead.has(lines::next(b, a, p, c, i)))
 }
 
 // Is action c of state p open, and does it lead to no state of the set `dead`? Where the set is empty no line is looked at.
@@ -75,18 +68,7 @@ fn none_left(mask: u8, n: usize) -> bool
     requires { n ≤ 8 }
     ensures { result ≡ is_empty (free mask (up_from 0 n)) }
 {
-    for c in 0..n {
-        if !mask.has(c) {
-            return false;
-        }
-    }
-    true
-}
-
-fn no_sets() -> [u8; 64]
-    ensures { length result ≡ 64 }
-{
-    [0; 64]
+    (0..n).all(|c| mask.has(c))
 }
 
 // The actions that no policy can take, of every state of a checked book.
@@ -94,7 +76,7 @@ pub fn find_barred(b: &[i32], z: Sizes, x: &[usize; 192]) -> Barred
     requires { Indexed b.now z x.now }
     ensures { BarredFrom b.now 0 result.off result.dead }
 {
-    let mut off = no_sets();
+    let mut off = [0u8; 64];
     let mut dead: u64 = 0;
     for p in (0..z.s).rev() {
         let mask = barred_at(b, z, x, p, dead);
@@ -104,10 +86,7 @@ pub fn find_barred(b: &[i32], z: Sizes, x: &[usize; 192]) -> Barred
             dead = dead.with(p);
         }
     }
-    Barred {
-        off: off,
-        dead: dead,
-    }
+    Barred { off, dead }
 }
 
 // 28: has a checked book a policy?

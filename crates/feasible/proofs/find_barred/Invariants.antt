@@ -6,4 +6,4 @@ use Rattle.feasible.specs.Barred.{BarredFrom}
 use Rattle.feasible.proofs.find_barred.Given as goal
 
 abbrev pub invariant-loop-p : goal.invariant-loop-p
-invariant-loop-p l = (state_count l.b ≤ 64) × (l.p ≤ state_count l.b) × BarredFrom l.b l.p l.off l.dead
+invariant-loop-p l = (state_count l.b ≤ 64) × BarredFrom l.b l.p l.off l.dead

@@ -5,16 +5,8 @@ use Rattle.model.specs.Model.{action}
 use Rattle.feasible.proofs.Sets.{none_dead}
 use Rattle.feasible.proofs.goes_on.Goals as goal
 
-pub returns-then-is_closed : goal.returns-then-is_closed
-returns-then-is_closed c = rw (sym c.is_closed.ensures ∙ c.if-is_closed.true)
-
 pub returns-then-dead-eq0 : goal.returns-then-dead-eq0
 returns-then-dead-eq0 c =
     let s = c in
     rw (sym c.is_closed.ensures ∙ c.if-is_closed.false, c.if-dead-eq0.true)
     (sym (none_dead (action s.args.b.now s.args.p s.args.c).transitions))
-
-pub returns : goal.returns
-returns c =
-    let e = c in
-    rw (sym e.is_closed.ensures ∙ e.if-is_closed.false) c.avoids.ensures

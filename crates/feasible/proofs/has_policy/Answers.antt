@@ -15,4 +15,4 @@ returns c =
     let m = c in
     let s = m in
     let ws = s.args.b.now in
-    ap not (c.has64.ensures ∙ m.find_barred-m.ensures.dead_is 0 (omega arith) (shape ws s.requires).some_state) ∙ sym (has_is ws s.requires)
+    ap not (c.has.ensures ∙ m.find_barred-m.ensures.dead_is 0 (omega arith) (shape ws s.requires).some_state) ∙ sym (has_is ws s.requires)

@@ -1,24 +1,13 @@
 -- Assumes nothing.
-use mathlib.Core.Path.{sym, ◌∙◌}
-use native.Mathlib.Omega.{arith}
-use Rattle.feasible.proofs.Sets.{one_left, none_free, one_more}
+use Rattle.std.proofs.Common.{◌∙◌, rules, tests}
+use Rattle.std.proofs.lemmas.Iterator.{YieldsList-from_range}
+use Rattle.std.proofs.lemmas.Iterator.Search.{all_from_yields_List}
+use Rattle.sets.specs.Sets.{has}
+use Rattle.feasible.proofs.Sets.{all_of}
 use Rattle.feasible.proofs.none_left.Goals as goal
-
-pub loop-c-init : goal.loop-c-init
-loop-c-init c = (omega arith, λ d l. absurd (omega arith))
-
-pub returns-then-not-has8 : goal.returns-then-not-has8
-returns-then-not-has8 c =
-    let l = c in
-    let s = l in
-    sym (one_left s.args.mask s.args.n l.loop-c.c c.loop-c-test.true (sym c.has8.ensures ∙ c.if-not-has8.true))
-
-pub loop-c-preserved : goal.loop-c-preserved
-loop-c-preserved c =
-    let l = c in
-    (omega arith, one_more l.args.mask l.loop-c.c l.loop-c.invariant.1 (sym c.has8.ensures ∙ c.if-not-has8.false))
 
 pub returns : goal.returns
 returns c =
-    let l = c in
-    sym (none_free l.args.mask l.args.n (λ d h. l.loop-c.invariant.1 d (omega arith)))
+    all_from_yields_List (has c.args.mask) _ _ c.all.result c.all.ensures.ran
+    (YieldsList-from_range 0 c.args.n c.args.n (search rules) (search rules)) (λ x b q k. search (rules, tests))
+    ∙ all_of c.args.mask 0 c.args.n
