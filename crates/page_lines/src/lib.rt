@@ -49,12 +49,11 @@ pub fn put_lines(out: &mut [u8], at: usize, l: Listing) -> usize
     requires { Held l × (l.s ≤ 64) × (at + 1387 * l.n ≤ length out.old) }
     ensures { Appended out.old at (array_lines l l.n) out.new result }
 {
-    let plans = l.plans;
     let mut p = at;
     for j in 0..l.n {
         let from = j * l.s;
         let to = from + l.s;
-        p = text::put_line(out, p, j as u64 + 1, l.costs[j], &plans[from..to]);
+        p = text::put_line(out, p, j as u64 + 1, l.costs[j], &l.plans[from..to]);
     }
     p
 }
