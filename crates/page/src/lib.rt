@@ -50,7 +50,6 @@ pub fn print_page(input: &[u8], out: &mut [u8]) -> usize
     ensures { Put most_page (page input.now) out.old out.new result }
 {
     let q = input::read(input);
-    let words = q.words;
-    let asked = asked::asked_number(&words[..q.n], q.k);
-    put_page(asked, &words[..q.n], q.k, out)
+    let book = &q.words[..q.n];
+    put_page(asked::asked_number(book, q.k), book, q.k, out)
 }

@@ -28,33 +28,22 @@ title_is ws k n d h ok en ed eh =
 pub read_sizes-z-requires : goal.read_sizes-z-requires
 read_sizes-z-requires c = headed _ c.requires.0.ok
 
-pub list-l-requires : goal.list-l-requires
-list-l-requires c = let a = c.requires.0 in record { ok = a.ok; low = a.low; high = a.high }
-
 pub put_lines-requires : goal.put_lines-requires
 put_lines-requires c =
-    let t = c in
-    let l = t in
-    let s = l in
-    let h = l.list-l.ensures in (
+    let h = c.list-l.ensures in (
       h.held,
-      omega (arith, h.states, (accepted s.args.b.now s.requires.0.ok).sizes.s_high),
-      omega (arith, t.put_title-at.ensures.1, h.held.few, t.put_title-at.auto.out, s.requires.1),
+      omega (arith, h.states, (accepted c.args.b.now c.requires.0.ok).sizes.s_high),
+      omega (arith, c.put_title-at.ensures.1, h.held.few, c.put_title-at.auto.out, c.requires.1),
     )
 
 pub returns : goal.returns
 unfolding list_page
 returns c =
-    let y = c in
-    let t = y in
-    let l = t in
-    let s = l in
-    let z = l.read_sizes-z.ensures in
-    let h = l.list-l.ensures in
-    let ok = s.requires.0.ok in
-    let n = l.list-l.result.n in
+    let z = c.read_sizes-z.ensures in
+    let h = c.list-l.ensures in
+    let ok = c.requires.0.ok in
     spoken
     (ap₂ ◌++◌
-    (ap (title_text n s.args.k) t.power.ensures ∙ title_is s.args.b.now s.args.k _ _ _ ok h.count z.d_is z.h_is)
-    (lines_are s.args.b.now ok s.args.k _ h))
-    (joined t.put_title-at.ensures.0 y.put_lines.ensures)
+    (ap (title_text c.list-l.result.n c.args.k) c.power.ensures ∙ title_is c.args.b.now c.args.k _ _ _ ok h.count z.d_is z.h_is)
+    (lines_are c.args.b.now ok c.args.k _ h))
+    (joined c.put_title-at.ensures.0 c.put_lines.ensures)
