@@ -2,20 +2,32 @@
 #![tactic(auto)]
 
 ghost use Rattle.std.specs.Prelude.{◌≡◌, length, take, drop};
+ghost use Rattle.std.specs.Result.{result_unwrap_or};
 ghost use Rattle.model.specs.Questions.{book_number};
 ghost use Rattle.model.specs.Record.{accept_number};
 ghost use Rattle.model.specs.Calls.{power_of, value_number, value_cost, least_number, least_cost, room_of, rank_number, rank_count, rank_costs, rank_plans, small_number, small_count, small_costs, small_plans, write_number, write_length, write_record, accept_states, accept_count, shown, find_number, find_answer, find_value, limit_number, limit_answer, limit_rank};
 ghost use Rattle.model.specs.Limit.{limit_of};
 ghost use Rattle.reward_table.specs.Convert.{convert_number, convert_length, convert_slice};
 ghost use Rattle.reservation.specs.Reservations.{held_by, committed_by, open_for, reply, asking, committing, cancelling, opening};
+ghost use Rattle.refusal.specs.Refusal.{number_in};
 ghost use Rattle.kbest_c.specs.Part.{shown_offset, shown_length};
 ghost use Rattle.kbest_c.specs.Version.{version};
 
 use accept::Accepted;
+use refusal::Refusal;
 use reservation::Desk;
 
 // The version in the file VERSION: its first number × 10,000 + its second × 100 + its third.
 const VERSION: u32 = 10800;
+
+// The number of a call that gives one figure, which goes to the place for it: `none` where the call is refused.
+fn told<T: Copy>(r: Result<T, Refusal>, none: T, figure: &mut T) -> u32
+    ensures number { result ≡ number_in r }
+    ensures figure { figure.new ≡ result_unwrap_or r none }
+{
+    *figure = r.unwrap_or(none);
+    refusal::number(&r)
+}
 
 // The version of the library that is linked.
 #[unsafe(no_mangle)]
@@ -42,26 +54,25 @@ pub extern "C" fn kbest_power(d: usize, e: usize) -> u64
 }
 
 // The number of valuing a plan of a book; its exact cost over D^H, 0 where it is refused.
+#[tactic(auto, using(crate::proofs::Figures::figure_is), unfolding(model::specs::Calls::value_cost))]
 #[unsafe(no_mangle)]
 pub extern "C" fn kbest_value(book: &[i32], plan: &[u8], cost: &mut i64) -> u32
     ensures { (result ≡ value_number book.now plan.now) × (cost.new ≡ value_cost book.now plan.now) }
 {
-    let v = value::value(book, plan);
-    *cost = v.unwrap_or(0);
-    refusal::number(&v)
+    told(value::value(book, plan), 0, cost)
 }
 
 // The number of the least cost of a book; that cost over D^H, 0 where it is refused.
+#[tactic(auto, using(crate::proofs::Figures::figure_is), unfolding(model::specs::Calls::least_cost))]
 #[unsafe(no_mangle)]
 pub extern "C" fn kbest_least(book: &[i32], cost: &mut i64) -> u32
     ensures { (result ≡ least_number book.now) × (cost.new ≡ least_cost book.now) }
 {
-    let v = least::least(book);
-    *cost = v.unwrap_or(0);
-    refusal::number(&v)
+    told(least::least(book), 0, cost)
 }
 
 // The number of ranking the k best plans; how many are listed. Their costs and plans go to the fronts of the two slices.
+#[tactic(auto, using(crate::proofs::Figures::figure_is), unfolding(model::specs::Calls::rank_count))]
 #[unsafe(no_mangle)]
 pub extern "C" fn kbest_rank(
     book: &[i32],
@@ -72,12 +83,11 @@ pub extern "C" fn kbest_rank(
 ) -> u32
     ensures { (result ≡ rank_number book.now (room_of k costs.old plans.old)) × (listed.new ≡ rank_count book.now (room_of k costs.old plans.old)) × (costs.new ≡ rank_costs book.now k costs.old plans.old) × (plans.new ≡ rank_plans book.now k costs.old plans.old) }
 {
-    let n = rank::rank(book, k, costs, plans);
-    *listed = n.unwrap_or(0);
-    refusal::number(&n)
+    told(rank::rank(book, k, costs, plans), 0, listed)
 }
 
 // The same for a book with at most 4,096 plans, by going through all of them; a book with more gets 30.
+#[tactic(auto, using(crate::proofs::Figures::figure_is), unfolding(model::specs::Calls::small_count))]
 #[unsafe(no_mangle)]
 pub extern "C" fn kbest_rank_small(
     book: &[i32],
@@ -88,12 +98,11 @@ pub extern "C" fn kbest_rank_small(
 ) -> u32
     ensures { (result ≡ small_number book.now (room_of k costs.old plans.old)) × (listed.new ≡ small_count book.now (room_of k costs.old plans.old)) × (costs.new ≡ small_costs book.now k costs.old plans.old) × (plans.new ≡ small_plans book.now k costs.old plans.old) }
 {
-    let n = rank_small::rank_small(book, k, costs, plans);
-    *listed = n.unwrap_or(0);
-    refusal::number(&n)
+    told(rank_small::rank_small(book, k, costs, plans), 0, listed)
 }
 
 // The number of finding a plan in the list of a book and k; which of the three answers it gets, and its rank, amount or state, both 0 where it is refused.
+#[tactic(auto, using(crate::proofs::Figures::figure_is), unfolding(model::specs::Calls::find_answer, model::specs::Calls::find_value))]
 #[unsafe(no_mangle)]
 pub extern "C" fn kbest_find(
     book: &[i32],
@@ -105,21 +114,14 @@ pub extern "C" fn kbest_find(
     ensures { (result ≡ find_number book.now k plan.now) × (answer.new ≡ find_answer book.now k plan.now) × (value.new ≡ find_value book.now k plan.now) }
 {
     let found = find::find(book, k, plan);
-    match found {
-        Ok(a) => {
-            *answer = a.number();
-            *value = a.value();
-        }
-        Err(_) => {
-            *answer = 0;
-            *value = 0;
-        }
-    }
+    *answer = found.map_or(0, |a| a.number());
+    *value = found.map_or(0, |a| a.value());
     refusal::number(&found)
 }
 
 // The number of seeking the first listed plan none of whose days makes more than m marked choices; which of the three answers there is, and the rank, 0 where
 // there is none. Both are 0 where it is refused.
+#[tactic(auto, using(crate::proofs::Figures::figure_is), unfolding(model::specs::Calls::limit_answer, model::specs::Calls::limit_rank))]
 #[unsafe(no_mangle)]
 pub extern "C" fn kbest_limit(
     book: &[i32],
@@ -132,48 +134,38 @@ pub extern "C" fn kbest_limit(
     ensures { (result ≡ limit_number book.now k (limit_of marks.now m)) × (answer.new ≡ limit_answer book.now k (limit_of marks.now m)) × (rank.new ≡ limit_rank book.now k (limit_of marks.now m)) }
 {
     let limited = limit::limit(book, k, marks, m);
-    match limited {
-        Ok(a) => {
-            *answer = a.number();
-            *rank = a.rank();
-        }
-        Err(_) => {
-            *answer = 0;
-            *rank = 0;
-        }
-    }
+    *answer = limited.map_or(0, |a| a.number());
+    *rank = limited.map_or(0, |a| a.rank());
     refusal::number(&limited)
 }
 
 // The number of writing the record of a book and k; its length. The record goes to the front of the slice.
+#[tactic(auto, using(crate::proofs::Figures::figure_is), unfolding(model::specs::Calls::write_length))]
 #[unsafe(no_mangle)]
 pub extern "C" fn kbest_write(book: &[i32], k: usize, filed: &mut [u8], size: &mut usize) -> u32
     ensures { (result ≡ write_number book.now k (length filed.old)) × (size.new ≡ write_length book.now k (length filed.old)) × (filed.new ≡ write_record book.now k filed.old) }
 {
-    let n = write::write(book, k, filed);
-    *size = n.unwrap_or(0);
-    refusal::number(&n)
+    told(write::write(book, k, filed), 0, size)
 }
 
 // The number of converting a planners' table to a book; the book's length in words. The book goes to the front of the slice.
+#[tactic(auto, using(crate::proofs::Figures::figure_is), unfolding(reward_table::specs::Convert::convert_length))]
 #[unsafe(no_mangle)]
 pub extern "C" fn kbest_convert(table: &[i32], book: &mut [i32], size: &mut usize) -> u32
     ensures { (result ≡ convert_number table.now (length book.old)) × (size.new ≡ convert_length table.now (length book.old)) × (book.new ≡ convert_slice table.now book.old) }
 {
-    let n = convert::convert(table, book);
-    *size = n.unwrap_or(0);
-    refusal::number(&n)
+    told(convert::convert(table, book), 0, size)
 }
 
 // The number of accepting a record; how many states its book has and how many plans it lists.
+#[tactic(auto, using(crate::proofs::Figures::figure_is), unfolding(model::specs::Calls::accept_states, model::specs::Calls::accept_count))]
 #[unsafe(no_mangle)]
 pub extern "C" fn kbest_accept(filed: &[u8], states: &mut usize, listed: &mut usize) -> u32
     ensures { (result ≡ accept_number filed.now) × (states.new ≡ accept_states filed.now) × (listed.new ≡ accept_count filed.now) }
 {
     let accepted = accept::accept(filed);
-    let a = accepted.unwrap_or(Accepted { s: 0, k: 0 });
-    *states = a.s;
-    *listed = a.k;
+    *states = accepted.map_or(0, |a| a.s);
+    *listed = accepted.map_or(0, |a| a.k);
     refusal::number(&accepted)
 }
 
