@@ -1,17 +1,16 @@
 -- The first best of a list of actions, taken from the front one by one.
 -- Assumes nothing.
 use mathlib.Core.Path.{◌≡◌, refl, sym, ap, ◌∙◌}
-use mathlib.Core.Bool.{Bool, true, false, not, cond}
+use mathlib.Core.Bool.{Bool, true, false, cond}
 use mathlib.Core.Logic.{inl, inr}
 use mathlib.Core.List.{List, [], ◌∷◌}
 use Prim.Native.Nat.{ℕ, suc, ◌+◌, ◌-◌, ◌≤◌, ◌<◌}
 use native.Mathlib.Numerals.{add-one}
-use native.Mathlib.Decide.{dec_lt}
 use native.Mathlib.Omega.{arith}
-use borrow.Author.Tests.{ne_eqb, le-leb, lt-leb, lt-ltb, le-ltb}
-use lib.Dec.{eqb, leb, ltb}
-use lib.IntN.{ℤ, pos, negsuc}
-use lib.Signed.{le_z, lt_z, le_z_yes, <ℤ-≤ℤ_trans, clash_ℤ}
+use borrow.Author.Tests.{ne_eqb}
+use lib.Dec.{eqb}
+use lib.IntN.{ℤ}
+use lib.Signed.{le_z, le_z_yes, <ℤ-≤ℤ_trans, clash_ℤ}
 use Rattle.model.specs.Lists.{up_from}
 use Rattle.model.specs.Recursion.{pick, first_least, best_of}
 use Rattle.laws.specs.Int.{≤ℤ-trans, le_z_no, <→≤}
@@ -19,20 +18,6 @@ use Rattle.laws.specs.Members.{Every, every_in, in_every, true-T, false-T, up_fr
 use Rattle.laws.specs.Best.{best_in}
 use Rattle.sets.specs.Sets.{has, free, free_in}
 use Rattle.table.specs.Table.{Chosen, better}
-
--- one test of two costs is the other's negation
-leb-ltb : (a b : ℕ) → leb a b ≡ not (ltb b a)
-leb-ltb a b = go (dec_lt b a)
-  where
-    go : Dec (b < a) → leb a b ≡ not (ltb b a)
-    go (yes h) = lt-leb a b h ∙ ap not (sym (lt-ltb b a h))
-    go (no h) = le-leb a b (omega arith) ∙ ap not (sym (le-ltb b a (omega arith)))
-
-le_not_lt : (x y : ℤ) → le_z x y ≡ not (lt_z y x)
-le_not_lt (pos a) (pos b) = leb-ltb a b
-le_not_lt (pos a) (negsuc b) = refl
-le_not_lt (negsuc a) (pos b) = refl
-le_not_lt (negsuc a) (negsuc b) = leb-ltb b a
 
 some_action : {c : ℕ} → c < 8 → eqb c 255 ≡ false
 some_action {c} h = ne_eqb c 255 (λ e. omega arith)
@@ -102,9 +87,6 @@ rest_below mask c n h k =
 rest_step : (mask c n : ℕ) → c < n → rest mask c n ≡ cond (has mask c) (rest mask (c + 1) n) (c ∷ rest mask (c + 1) n)
 rest_step mask c n h = let e : n - c ≡ suc (n - (c + 1)) = omega arith in rw (e, add-one c)
 
-pub rest_end : (mask c n : ℕ) → n ≤ c → rest mask c n ≡ []
-rest_end mask c n h = let e : n - c ≡ 0 = omega arith in rw e
-
 -- the loop's step
 pub best_step : (f : ℕ → ℤ) (mask c n best : ℕ) → c < n → n ≤ 8 → Chosen best
     → better f best (best_of f (rest mask c n)) ≡ better f (cond (has mask c) best (better f best c)) (best_of f (rest mask (c + 1) n))
@@ -136,15 +118,3 @@ best-same f g (x ∷ xs) h = go x xs h
         let e : f (first_least f y ys) ≡ g (first_least g y ys)
         = every_in (λ c. f c ≡ g c) (y ∷ ys) h.1 (first_least f y ys) (best_in f (y ∷ ys) y (inl refl)) ∙ ap g i in
         rw (h.0, e, i)
-
-pub chosen_below : (c : ℕ) → Chosen c → (c ≡ 255 → ⊥) → c < 8
-chosen_below c (inl e) h = absurd (h e)
-chosen_below c (inr l) h = l
-
--- the test of two entries decides
-module _ (f : ℕ → ℤ) (best c : ℕ) (h : best < 8) (k : c < 8) where
-  pub take_new : lt_z (f c) (f best) ≡ true → c ≡ better f best c
-  take_new e = sym (two f best c h k ∙ ap (λ (t : Bool). pick t best c) (le_not_lt (f best) (f c) ∙ ap not e))
-
-  pub keep-old : lt_z (f c) (f best) ≡ false → best ≡ better f best c
-  keep-old e = sym (two f best c h k ∙ ap (λ (t : Bool). pick t best c) (le_not_lt (f best) (f c) ∙ ap not e))

@@ -1,8 +1,7 @@
 // The least cost-to-go of every state and the cost of every action: equation (5), one pass over the lines from the last state to the first.
 #![tactic(auto)]
 
-ghost use Rattle.std.specs.Prelude.{◌≡◌, cond, ◌+◌, ◌*◌, ◌<◌, ◌≤◌, pos, length, get_or};
-ghost use Rattle.std.specs.Int.Signed.{lt_z};
+ghost use Rattle.std.specs.Prelude.{◌≡◌, cond, ◌<◌, ◌≤◌, length};
 ghost use Rattle.model.specs.Lists.{up_from};
 ghost use Rattle.model.specs.Model.{state_count};
 ghost use Rattle.model.specs.Recursion.{best_of};
@@ -14,29 +13,18 @@ ghost use Rattle.table.specs.Table.{Chosen, better, row_of, RowBounded, Filled, 
 use book::Sizes;
 use sets::Set;
 
-// Is entry i below entry k?
-fn below(q: &[i64; 512], i: usize, k: usize) -> bool
-    requires { (i < 512) × (k < 512) }
-    ensures { result ≡ lt_z (get_or q.now i (pos 0)) (get_or q.now k (pos 0)) }
-{
-    q[i] < q[k]
-}
-
 // The better of the best action so far and action c of state p, unless c is in the set `mask`. The lower number wins among equals.
 fn best_of_two(q: &[i64; 512], p: usize, best: usize, c: usize, mask: u8) -> usize
     requires { (p < 64) × (c < 8) × Chosen best }
     ensures { result ≡ cond (has mask c) best (better (row_of q.now p) best c) }
 {
     if mask.has(c) {
-        return best;
+        best
+    } else if best == 255 || q[8 * p + c] < q[8 * p + best] {
+        c
+    } else {
+        best
     }
-    if best == 255 {
-        return c;
-    }
-    if below(q, 8 * p + c, 8 * p + best) {
-        return c;
-    }
-    best
 }
 
 // The first best action of state p among the first n that are not in the set `mask`; 255 where there is none.
@@ -44,6 +32,7 @@ pub fn best_action(q: &[i64; 512], p: usize, n: usize, mask: u8) -> usize
     requires { (p < 64) × (n ≤ 8) }
     ensures { result ≡ best_of (row_of q.now p) (free mask (up_from 0 n)) }
 {
+    // 255 and no Option: best_of, which the contract names, is 255 of no action
     let mut best: usize = 255;
     for c in 0..n {
         best = best_of_two(q, p, best, c, mask);
@@ -70,8 +59,7 @@ fn fill_row(
     for c in 0..n {
         if !off.has(c) {
             let a = lines::of_line(b, z, x, p, c, j);
-            let y = costs::action_cost(b, a, p, c, unit, v);
-            q[8 * p + c] = y;
+            q[8 * p + c] = costs::action_cost(b, a, p, c, unit, v);
         }
         j = index::line_after(b, z, p, c, j);
     }
@@ -87,14 +75,6 @@ pub fn zeros() -> [i64; 64]
     ensures { length result ≡ 64 }
 {
     [0; 64]
-}
-
-// The entry of action c of state p.
-fn entry(q: &[i64; 512], p: usize, c: usize) -> i64
-    requires { (p < 64) × (c < 8) }
-    ensures { result ≡ row_of q.now p c }
-{
-    q[8 * p + c]
 }
 
 // Fills q and v with the table of a checked book, where `off` has the actions that no policy can take: at 8 × p + c of q the cost of action c of state p with
@@ -117,8 +97,7 @@ pub fn fill_table(
         let n = index::count(b, z, p);
         let best = best_action(q, p, n, mask);
         if best < 8 {
-            let y = entry(q, p, best);
-            v[p] = y;
+            v[p] = q[8 * p + best];
         }
     }
 }

@@ -1,7 +1,6 @@
 -- The best so far and the best of the actions to come give the best of all.
 -- Assumes nothing.
 use mathlib.Core.Path.{◌≡◌}
-use Prim.Native.Nat.{◌-◌, ◌≤◌}
 use Rattle.model.specs.Lists.{up_from}
 use Rattle.model.specs.Recursion.{best_of}
 use Rattle.sets.specs.Sets.{free}
@@ -11,6 +10,5 @@ use Rattle.table.proofs.best_action.Given as goal
 
 abbrev pub invariant-loop-c : goal.invariant-loop-c
 invariant-loop-c l =
-    (l.c ≤ l.n)
-    × Chosen l.best
+    Chosen l.best
     × (best_of (row_of l.q l.p) (free l.mask (up_from 0 l.n)) ≡ better (row_of l.q l.p) l.best (best_of (row_of l.q l.p) (rest l.mask l.c l.n)))

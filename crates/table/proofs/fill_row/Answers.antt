@@ -1,20 +1,19 @@
 -- Assumes nothing.
-use mathlib.Core.Path.{◌≡◌, sym, ◌∙◌, subst}
+use mathlib.Core.Path.{sym, ◌∙◌, subst}
 use Prim.Native.Nat.{◌+◌, ◌<◌}
 use native.Mathlib.Omega.{arith}
-use Rattle.model.specs.Model.{Words, action_count}
-use Rattle.accepted.specs.Options.{Feasible, to_option}
-use Rattle.index.specs.Index.{ActionAt}
+use Rattle.model.specs.Model.{action_count}
+use Rattle.accepted.specs.Options.{to_option}
 use Rattle.index.proofs.Lines.{entered}
 use Rattle.costs.proofs.Sums.{read64}
 use Rattle.table.specs.Table.{FilledTo}
 use Rattle.feasible.proofs.Leaves.{off_none, on_feasible}
 use Rattle.table.proofs.Rows.{filled_none, filled_more, filled_skip}
 use Rattle.table.proofs.fill_row.Goals as goal
-use Rattle.table.proofs.fill_row.Goals.{After-count-n, In-loop-c, Then-not-has8, then-not-has8, else-not-has8}
+use Rattle.table.proofs.fill_row.Goals.{After-count-n, In-loop-c, then-not-has, else-not-has}
 
 state : (c : goal.After-count-n) → c.args.p < 64
-state c = let s = c in (entered s.requires.0 s.args.p s.requires.1).small
+state c = (entered c.requires.0 c.args.p c.requires.1).small
 
 pub offset_bounds-x-p : goal.offset_bounds-x-p
 offset_bounds-x-p c = omega (arith, state (goal.at.offset_bounds-x-p c).After-count-n)
@@ -24,79 +23,42 @@ bounds-x-p c = omega (arith, state (goal.at.bounds-x-p c).After-count-n)
 
 pub loop-c-init : goal.loop-c-init
 loop-c-init c =
-    let s = c in
-    let e = entered s.requires.0 s.args.p s.requires.1 in (
-      omega arith,
+    let e = entered c.requires.0 c.args.p c.requires.1 in (
       e.small,
       omega (arith, c.count-n.ensures, e.few),
-      filled_none s.args.b.now s.args.p s.args.v.now s.args.q.now s.requires.4,
+      filled_none c.args.b.now c.args.p c.args.v.now c.args.q.now c.requires.4,
       e.first,
     )
 
--- in a turn of the loop
-module _ (t : goal.In-loop-c) where
-  abbrev l : goal.In-loop-c
-  l = t
+-- the state has an action c
+action_here : (t : goal.In-loop-c) → t.loop-c.c < action_count t.args.b.now t.args.p
+action_here t = omega (arith, t.count-n.ensures)
 
-  abbrev s : goal.In-loop-c
-  s = t
-
-  abbrev ws : Words
-  ws = s.args.b.now
-
-  -- action c and its first line
-  here : ActionAt ws s.args.p l.loop-c.c l.loop-c.j
-  here = record { state = s.requires.1; action = omega (arith, l.count-n.ensures); line_is = l.loop-c.invariant.4 }
-
--- an action that is not in the set is feasible
-goes_on : (c : goal.Then-not-has8) → let t = (goal.at.of_line-a-requires c).In-loop-c in Feasible (ws t) (s t).args.p (l t).loop-c.c
-goes_on c =
-    let t = (goal.at.of_line-a-requires c).In-loop-c in
-    on_feasible (ws t) (s t).args.p (s t).args.off (l t).loop-c.c (s t).requires.2 (here t).action (sym c.has8.ensures ∙ c.if-not-has8.true)
-
-pub of_line-a-requires : goal.of_line-a-requires
-of_line-a-requires c = let t = (goal.at.of_line-a-requires c).In-loop-c in ((s t).requires.0, here t)
-
-pub action_cost-y-requires : goal.action_cost-y-requires
-action_cost-y-requires c =
-    let o = c in
-    let t = (goal.at.action_cost-y-requires o).In-loop-c in
-    let i = goes_on (goal.at.action_cost-y-requires o).Then-not-has8 in (
-      c.of_line-a.ensures,
-      (l t).unit-unit.ensures,
-      to_option (ws t) (s t).args.p (l t).loop-c.c i,
-      (s t).requires.3 (l t).loop-c.c i,
-    )
-
-pub line_after-j-requires : goal.line_after-j-requires
-line_after-j-requires c = let t = (goal.at.line_after-j-requires c).In-loop-c in ((s t).requires.0.checked, here t)
+pub action_cost-requires : goal.action_cost-requires
+action_cost-requires c =
+    let ws = c.args.b.now in
+    -- an action that is not in the set is feasible
+    let i = on_feasible ws c.args.p c.args.off c.loop-c.c c.requires.2 (action_here (goal.at.action_cost-requires c).In-loop-c) (sym c.has.ensures ∙ c.if-not-has.true) in
+    (c.of_line-a.ensures, c.unit-unit.ensures, to_option ws c.args.p c.loop-c.c i, c.requires.3 c.loop-c.c i)
 
 pub loop-c-preserved : goal.loop-c-preserved
 loop-c-preserved c =
-    let a = c in
-    let t = (goal.at.loop-c-preserved a).In-loop-c in
-    let i = (l t).loop-c in
-    let p = (s t).args.p in (
-      omega arith,
+    let ws = c.args.b.now in
+    let i = c.loop-c in
+    let p = c.args.p in
+    let v = c.args.v.now in
+    let q = c.args.q.now in (
+      i.invariant.0,
       i.invariant.1,
-      i.invariant.2,
-      elim a.if-not-has8.branch [
-        | then-not-has8 w ↦
-            subst (FilledTo (ws t) p (i.c + 1) (s t).args.v.now (s t).args.q.now) (sym w.q-is)
-            (rw (read64 w.action_cost-y.result w.action_cost-y.type_inv)
-            (filled_more (ws t) p i.c (s t).args.v.now (s t).args.q.now i.q w.action_cost-y.result i.invariant.1 (omega arith) i.invariant.3 w.action_cost-y.ensures))
-        | else-not-has8 w ↦
-            subst (FilledTo (ws t) p (i.c + 1) (s t).args.v.now (s t).args.q.now) (sym w.q-is)
-            (filled_skip (ws t) p i.c (s t).args.v.now (s t).args.q.now i.q i.invariant.3
-            (off_none (ws t) p (s t).args.off i.c (s t).requires.2 (here t).action (sym a.has8.ensures ∙ w.if-not-has8.false)))
+      elim c.if-not-has.branch [
+        | then-not-has w ↦
+            subst (FilledTo ws p (i.c + 1) v q) (sym w.q-is)
+            (rw (read64 w.action_cost.result w.action_cost.type_inv)
+            (filled_more ws p i.c v q i.q w.action_cost.result i.invariant.0 (omega arith) i.invariant.2 w.action_cost.ensures))
+        | else-not-has w ↦
+            subst (FilledTo ws p (i.c + 1) v q) (sym w.q-is)
+            (filled_skip ws p i.c v q i.q i.invariant.2
+            (off_none ws p c.args.off i.c c.requires.2 (action_here (goal.at.loop-c-preserved c).In-loop-c) (sym c.has.ensures ∙ w.if-not-has.false)))
       ],
       c.line_after-j.ensures,
     )
-
-pub returns : goal.returns
-returns c =
-    let l = c in
-    let s = l in
-    let ws = s.args.b.now in
-    let e : l.loop-c.c ≡ action_count ws s.args.p = omega (arith, l.count-n.ensures) in
-    subst (λ n. FilledTo ws s.args.p n s.args.v.now s.args.q.now l.loop-c.q) e l.loop-c.invariant.3

@@ -6,4 +6,4 @@ use Rattle.table.specs.Table.{TableFrom}
 use Rattle.table.proofs.fill_table.Given as goal
 
 abbrev pub invariant-loop-p : goal.invariant-loop-p
-invariant-loop-p l = (state_count l.b ≤ 64) × (l.p ≤ state_count l.b) × TableFrom l.b l.p l.q l.v
+invariant-loop-p l = (state_count l.b ≤ 64) × TableFrom l.b l.p l.q l.v
