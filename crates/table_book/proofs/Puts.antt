@@ -2,17 +2,23 @@
 -- Assumes nothing.
 use mathlib.Core.Path.{◌≡◌, refl, sym, ap, ap₂, ◌∙◌}
 use mathlib.Core.Bool.{Bool, true, false}
-use mathlib.Core.List.{List, [], ◌∷◌, ◌++◌, map}
-use Prim.Native.Nat.{ℕ, ◌+◌, ◌*◌, ◌-◌, ◌≤◌}
+use mathlib.Core.List.{List, [], ◌∷◌, ◌++◌, map, append_assoc}
+use lib.Seq.{drop-drop, drop-cons}
+use lib.Signed.{mag}
+use mir.Syntax.{w32}
+use mir.Val.{to_z, of_z}
+use mir.Facts.{to_z-of_z}
+use borrow.Rule.Slice.PartMut.{put_mid}
+use Prim.Native.Nat.{ℕ, ◌+◌, ◌*◌, ◌-◌, ◌≤◌, ◌<◌}
 use native.Mathlib.Omega.{arith}
 use lib.IntN.{ℤ, pos}
-use lib.ListN.{length, take, drop, replicate, length-append, length-replicate}
+use lib.ListN.{length, get_or, set, take, drop, replicate, length-append, length-replicate, length-take, length-drop}
 use Rattle.model.specs.Lists.{up_from}
 use Rattle.model.specs.Model.{Words, word}
 use Rattle.model.specs.Calls.{over}
 use Rattle.laws.specs.Joined.{mapped_raised}
 use Rattle.bytes_io.specs.Slices.{written}
-use Rattle.bytes_io.proofs.Parts.{length-written, written_join, written-front}
+use Rattle.bytes_io.proofs.Parts.{length-written, written_join, written-front, set-written, four}
 use Rattle.reward_table.specs.Table.{table_states, table_first, table_lines, table_left}
 use Rattle.reward_table.specs.Read.{Given, TableRead}
 use Rattle.reward_table.specs.declared.Table.{Table}
@@ -48,21 +54,44 @@ module _ {o₀ : List ℤ} {at m : ℕ} {xs o : List ℤ} (p : Puts o₀ at m xs
 pub put_front : {o₀ : List ℤ} {m : ℕ} {xs o : List ℤ} → Puts o₀ 0 m xs o → o ≡ over xs o₀
 put_front {o₀} {m} {xs} p = p.is ∙ written-front o₀ m xs p.count
 
+-- a part of a slice, once n words are copied or one word is filled in
+module _ (o : List ℤ) (a n : ℕ) {ys : List ℤ} where
+  part_put : {xs : List ℤ} → ys ≡ xs → put_mid a (a + n - a) o ys ≡ written o a n xs
+  part_put {xs} q =
+      let j : a + n - a ≡ n = omega arith in
+      rw (q, j, drop-drop n a o) (sym (append_assoc (take a o) xs (drop (a + n) o)))
+
+  pub part_copied : (t : List ℤ) (i : ℕ) → ys ≡ take (i + n - i) (drop i t) → put_mid a (a + n - a) o ys ≡ written o a n (take n (drop i t))
+  part_copied t i q =
+      let j : i + n - i ≡ n = omega arith in
+      part_put (q ∙ ap (λ (k : ℕ). take k (drop i t)) j)
+
+  pub part_filled : (x : ℤ) → a + n ≤ length o → ys ≡ replicate (length (take (a + n - a) (drop a o))) x
+      → put_mid a (a + n - a) o ys ≡ written o a n (replicate n x)
+  part_filled x h q =
+      let j : length (take (a + n - a) (drop a o)) ≡ n = omega (arith, length-take (a + n - a) (drop a o), length-drop a o) in
+      part_put (q ∙ ap (λ (k : ℕ). replicate k x) j)
+
+-- one word that is copied
+pub one_copied : (o t : List ℤ) (a i : ℕ) → a < length o → i < length t → mag (get_or t i (pos 0)) < 2147483648
+    → set o a (to_z w32 (of_z w32 (get_or t i (pos 0)))) ≡ written o a 1 (take 1 (drop i t))
+one_copied o t a i h k f = rw (to_z-of_z {w = w32} (record { sfits = f }), drop-cons t i (pos 0) k) (set-written o a (get_or t i (pos 0)) h)
+
 -- ---- the sizes
 
-module _ {d h n lines : ℕ} {o : List ℤ} (fits : 4 + h ≤ length o) {a b c f : ℤ} {o₁ o₂ o₃ o₄ o₅ : List ℤ} where
-  pub sizes_put : a ≡ pos d → b ≡ pos h → c ≡ pos lines → f ≡ pos n → o₁ ≡ written o 0 1 (replicate 1 a) → o₂ ≡ written o₁ 1 1 (replicate 1 b)
-      → o₃ ≡ written o₂ 2 1 (replicate 1 c) → o₄ ≡ written o₃ 3 1 (replicate 1 (pos 1)) → o₅ ≡ written o₄ 4 h (replicate h f)
-      → Puts o 0 (4 + h) (book_sizes d h n lines) o₅
+module _ {d h n lines : ℕ} (o : List ℤ) (fits : 4 + h ≤ length o) {a b c f : ℤ} where
+  pub sizes_put : a ≡ pos d → b ≡ pos h → c ≡ pos lines → f ≡ pos n
+      → {ys : List ℤ} → ys ≡ replicate (length (take (4 + h - 4) (drop 4 (set (set (set (set o 0 a) 1 b) 2 c) 3 (pos 1))))) f
+      → put_mid 4 (4 + h - 4) (set (set (set (set o 0 a) 1 b) 2 c) 3 (pos 1)) ys ≡ written o 0 (4 + h) (book_sizes d h n lines)
   unfolding book_sizes
-  sizes_put i j k l e₁ e₂ e₃ e₄ e₅ =
-      let p₁ : Puts o 0 1 (a ∷ []) o₁ = record { is = e₁; count = refl; fits = omega arith } in
-      let p₂ = put_more p₁ 1 1 (b ∷ []) e₂ refl refl (omega arith) in
-      let p₃ = put_more p₂ 2 1 (c ∷ []) e₃ refl refl (omega arith) in
-      let p₄ = put_more p₃ 3 1 (pos 1 ∷ []) e₄ refl refl (omega arith) in
-      let p₅ = put_more p₄ 4 h (replicate h f) e₅ refl (length-replicate h f) (omega arith) in
-      let q : 1 + 1 + 1 + 1 + h ≡ 4 + h = omega arith in
-      rw (← i, ← j, ← k, ← l, ← q) p₅
+  sizes_put i j k l e =
+      let q = four o 0 a b c (pos 1) (omega arith) in
+      let xs = a ∷ b ∷ c ∷ pos 1 ∷ [] in
+      let p : Puts o 0 4 xs (written o 0 4 xs) = record { is = refl; count = refl; fits = omega arith } in
+      rw (← i, ← j, ← k, ← l)
+      (part_filled (set (set (set (set o 0 a) 1 b) 2 c) 3 (pos 1)) 4 h f (rw q (omega (arith, put_long p))) e
+      ∙ ap (λ (zs : List ℤ). written zs 4 h (replicate h f)) q
+      ∙ (put_more p 4 h (replicate h f) refl refl (length-replicate h f) (omega arith)).is)
 
 pub sizes_count : (d h n lines : ℕ) → length (book_sizes d h n lines) ≡ 4 + h
 unfolding book_sizes

@@ -46,10 +46,6 @@ module _ (o₀ : List ℤ) (at m w : ℕ) (xs : List ℤ) where
       record { most = omega arith; filling = rw (z, y) (fill_start o₀ at (m * w) (repeated m xs)) }
 
   module _ (fits : at + m * w ≤ length o₀) {o : List ℤ} {k : ℕ} (h : Repeating o k) where
-    -- where the next one ends
-    pub rep_room : k < m → at + k * w + w ≤ length o
-    rep_room l = omega (arith, row_fits k m w l, h.filling.long)
-
     pub rep_step : length xs ≡ w → {o' : List ℤ} → k < m → o' ≡ written o (at + k * w) w xs → Repeating o' (k + 1)
     rep_step e l q =
         record {
@@ -75,9 +71,6 @@ module _ (o₀ : List ℤ) (at m w : ℕ) (xs : List ℤ) where
 -- ---- a run that is written once, and then repeated
 
 module _ (o₀ : List ℤ) (at m w : ℕ) (xs : List ℤ) where
-  pub rep_none : m ≡ 0 → o₀ ≡ written o₀ at (m * w) (repeated m xs)
-  rep_none e = let z : m * w ≡ 0 = rw e (omega arith) in rw (z, e) (sym (written_none o₀ at))
-
   module _ (some : m ≡ 0 → ⊥) (fits : at + m * w ≤ length o₀) (long : length xs ≡ w) {o : List ℤ} (e : o ≡ written o₀ at w xs) where
     rows : m * w ≡ w + (m - 1) * w
     rows = omega (arith, last_row m w (pos_of m some))
@@ -85,12 +78,6 @@ module _ (o₀ : List ℤ) (at m w : ℕ) (xs : List ℤ) where
         pos_of : (n : ℕ) → (n ≡ 0 → ⊥) → 1 ≤ n
         pos_of zero h = absurd (h refl)
         pos_of (suc n) h = omega arith
-
-    pub rep_long : length o ≡ length o₀
-    rep_long = ap length e ∙ length-written o₀ at w xs long (omega (arith, rows))
-
-    pub rep_fits : at + w + (m - 1) * w ≤ length o
-    rep_fits = omega (arith, rows, rep_long)
 
     pub rep_more : {o' : List ℤ} → o' ≡ written o (at + w) ((m - 1) * w) (repeated (m - 1) (take w (drop at o))) → o' ≡ written o₀ at (m * w) (repeated m xs)
     rep_more q =

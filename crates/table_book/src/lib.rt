@@ -1,14 +1,13 @@
 // The book of a planners' table: its sizes, and its words, put to the front of a slice.
 #![tactic(auto)]
 
-ghost use Rattle.std.specs.Prelude.{◌≡◌, ◌+◌, ◌*◌, ◌-◌, ◌<◌, ◌≤◌, nat_abs, length, take, drop, replicate};
-ghost use Rattle.model.specs.Model.{word};
+ghost use Rattle.std.specs.Prelude.{◌≡◌, ◌+◌, ◌*◌, ◌-◌, ◌≤◌, length, take, drop};
 ghost use Rattle.model.specs.Calls.{over};
 ghost use Rattle.bytes_io.specs.Slices.{written};
 ghost use Rattle.reward_table.specs.Table.{table_lines};
 ghost use Rattle.reward_table.specs.Read.{Given, TableRead};
 ghost use Rattle.reward_table.specs.Convert.{table_book};
-ghost use Rattle.table_book.specs.Columns.{turned, rest_after, turned_from, Turnable, column_from, repeated, book_column, book_counts, book_sizes};
+ghost use Rattle.table_book.specs.Columns.{turned_from, Turnable, column_from, repeated, book_column, book_counts, book_sizes};
 ghost use Rattle.table_book.specs.Read.{SizesOf, Passed, Made};
 
 use reward_table::Table;
@@ -36,11 +35,11 @@ fn sizes_of(h: usize, n: usize, from: usize, to: usize, body: usize) -> Sizes
     let lines = first + (h - 1) * body + n;
     let states = 1 + h * n;
     Sizes {
-        from: from,
-        first: first,
-        body: body,
-        lines: lines,
-        states: states,
+        from,
+        first,
+        body,
+        lines,
+        states,
         length: 4 + h + states + 2 * lines,
     }
 }
@@ -57,26 +56,6 @@ pub fn measure(t: &[i32], z: Table) -> Sizes
 
 // ---- runs of words, written from index `at` on
 
-// `count` words of t, from word `from` on.
-pub fn copy(t: &[i32], from: usize, count: usize, out: &mut [i32], at: usize)
-    requires { (from + count ≤ length t.now) × (at + count ≤ length out.old) }
-    ensures { out.new ≡ written out.old at count (take count (drop from t.now)) }
-{
-    for i in 0..count {
-        out[at + i] = t[from + i];
-    }
-}
-
-// `count` words that stand in `out` before `at`, from word `from` on.
-fn again(out: &mut [i32], from: usize, count: usize, at: usize)
-    requires { (from + count ≤ at) × (at + count ≤ length out.old) }
-    ensures { out.new ≡ written out.old at count (take count (drop from out.old)) }
-{
-    for i in 0..count {
-        out[at + i] = out[from + i];
-    }
-}
-
 // `count` words that stand in `out` from word `from` on, m times more after them.
 fn repeat(out: &mut [i32], from: usize, count: usize, m: usize)
     requires { from + count + m * count ≤ length out.old }
@@ -84,40 +63,8 @@ fn repeat(out: &mut [i32], from: usize, count: usize, m: usize)
 {
     let at = from + count;
     for k in 0..m {
-        again(out, from, count, at + k * count);
+        out.copy_within(from..at, at + k * count);
     }
-}
-
-// The word x, `count` times.
-fn fill(out: &mut [i32], at: usize, count: usize, x: i32)
-    requires { at + count ≤ length out.old }
-    ensures { out.new ≡ written out.old at count (replicate count x) }
-{
-    for i in 0..count {
-        out[at + i] = x;
-    }
-}
-
-// The word on the right of a line: a reward, which is negated, where no line of the action before it is left, else a weight.
-fn turn(x: i32, rest: usize) -> i32
-    requires { rest ≡ 0 → nat_abs x ≤ 100000 }
-    ensures { result ≡ turned rest x }
-{
-    if rest == 0 {
-        return 0 - x;
-    }
-    x
-}
-
-// How many lines of the action are left after the line whose left word is word i.
-fn rest_after(t: &[i32], i: usize, rest: usize) -> usize
-    requires { i < length t.now }
-    ensures { result ≡ rest_after rest (word t.now i) }
-{
-    if rest == 0 {
-        return book::size_at(t, i);
-    }
-    rest - 1
 }
 
 // The right column of `count` lines from line j on, with each reward negated.
@@ -127,10 +74,17 @@ fn turn_lines(t: &[i32], z: Table, j: usize, count: usize, out: &mut [i32], at: 
 {
     let left = z.columns + j;
     let right = left + z.l;
-    let mut rest: usize = 0;
+    // how many lines of the action are left
+    let mut rest = 0;
     for i in 0..count {
-        out[at + i] = turn(book::word_at(t, right + i), rest);
-        rest = rest_after(t, left + i, rest);
+        let x = t[right + i];
+        if rest == 0 {
+            out[at + i] = -x;
+            rest = book::size_at(t, left + i);
+        } else {
+            out[at + i] = x;
+            rest -= 1;
+        }
     }
 }
 
@@ -142,7 +96,8 @@ fn put_lines(t: &[i32], z: Table, right: bool, j: usize, count: usize, out: &mut
     if right {
         turn_lines(t, z, j, count, out, at);
     } else {
-        copy(t, z.columns + j, count, out, at);
+        let left = z.columns + j;
+        out[at..at + count].copy_from_slice(&t[left..left + count]);
     }
 }
 
@@ -184,10 +139,10 @@ fn put_later_counts(t: &[i32], z: Table, out: &mut [i32], at: usize)
     requires { Given t.now × TableRead t.now z × (at + (z.h - 1) * z.n ≤ length out.old) }
     ensures { out.new ≡ written out.old at ((z.h - 1) * z.n) (repeated (z.h - 1) (take z.n (drop 5 t.now))) }
 {
-    let m = z.h - 1;
     let n = z.n;
-    for k in 0..m {
-        copy(t, 5, n, out, at + k * n);
+    for k in 0..z.h - 1 {
+        let to = at + k * n;
+        out[to..to + n].copy_from_slice(&t[5..5 + n]);
     }
 }
 
@@ -196,9 +151,10 @@ fn put_counts(t: &[i32], z: Table, out: &mut [i32], at: usize)
     requires { Given t.now × TableRead t.now z × (at + (1 + z.h * z.n) ≤ length out.old) }
     ensures { out.new ≡ written out.old at (1 + z.h * z.n) (book_counts t.now) }
 {
-    copy(t, 5 + z.first, 1, out, at);
+    out[at] = t[5 + z.first];
     put_later_counts(t, z, out, at + 1);
-    fill(out, at + 1 + (z.h - 1) * z.n, z.n, 1);
+    let last = at + 1 + (z.h - 1) * z.n;
+    out[last..last + z.n].fill(1);
 }
 
 // D, H, L and how many states each stage has.
@@ -206,11 +162,11 @@ fn put_sizes(z: Table, lines: usize, out: &mut [i32])
     requires { (z.d ≤ 100) × (z.h ≤ 8) × (z.n ≤ 16) × (lines ≤ 32768) × (4 + z.h ≤ length out.old) }
     ensures { out.new ≡ written out.old 0 (4 + z.h) (book_sizes z.d z.h z.n lines) }
 {
-    fill(out, 0, 1, z.d as i32);
-    fill(out, 1, 1, z.h as i32);
-    fill(out, 2, 1, lines as i32);
-    fill(out, 3, 1, 1);
-    fill(out, 4, z.h, z.n as i32);
+    out[0] = z.d as i32;
+    out[1] = z.h as i32;
+    out[2] = lines as i32;
+    out[3] = 1;
+    out[4..4 + z.h].fill(z.n as i32);
 }
 
 // The book, to the front of `out`.

@@ -77,9 +77,6 @@ put_stages-requires c =
 pub overflow_add-at-2 : goal.overflow_add-at-2
 overflow_add-at-2 c = search (rules, lines_split c.requires.0 c.requires.1, c.requires.2)
 
-pub overflow_sub-z : goal.overflow_sub-z
-overflow_sub-z c = omega (arith, c.requires.0.given.h_low, c.requires.0.read.h_is)
-
 pub overflow_mul-z : goal.overflow_mul-z
 overflow_mul-z c = search (rules, lines_split c.requires.0 c.requires.1, c.requires.2)
 

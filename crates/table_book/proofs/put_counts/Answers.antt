@@ -1,11 +1,12 @@
 -- The first state, the stages between, and the closings.
 -- Assumes nothing.
 use mathlib.Core.Path.{◌≡◌, refl, ap, ap₂, ◌∙◌}
-use Prim.Native.Nat.{ℕ, ◌+◌, ◌*◌, ◌-◌, ◌≤◌}
+use Prim.Native.Nat.{ℕ, ◌+◌, ◌*◌, ◌-◌, ◌≤◌, ◌<◌}
 use native.Mathlib.Omega.{arith}
 use mathlib.Core.List.{List, ◌++◌}
 use lib.IntN.{ℤ, pos}
-use lib.ListN.{length, take, drop, replicate, length-drop, length-replicate}
+use lib.Signed.{mag}
+use lib.ListN.{length, get_or, take, drop, replicate, length-drop, length-replicate}
 use lib.Seq.{length-take-le}
 use Rattle.laws.specs.Joined.{copies_long}
 use Rattle.model.specs.Model.{Words}
@@ -14,7 +15,7 @@ use Rattle.reward_table.specs.Read.{Given, TableRead}
 use Rattle.reward_table.specs.declared.Table.{Table}
 use Rattle.table_book.specs.Columns.{repeated}
 use Rattle.table_book.proofs.Lists.{last_row}
-use Rattle.table_book.proofs.Puts.{Puts, put_long, put_more, counts_of}
+use Rattle.table_book.proofs.Puts.{Puts, put_long, put_more, one_copied, part_filled, counts_of}
 use borrow.Author.Rules.{rules}
 use Rattle.table_book.proofs.put_counts.Goals as goal
 
@@ -42,38 +43,21 @@ module _ (t : Words) (z : Table) (g : Given t) (r : TableRead t z) where
         (copies_long m xs ∙ ap (λ (k : ℕ). m * k) (length-take-le z.n (drop 5 t) (omega (arith, length-drop 5 t, g.exact, r.n_is))))
         (omega (arith, rows, room))
 
-pub copy-requires : goal.copy-requires
-copy-requires c =
-    (omega (arith, c.requires.0.exact, c.requires.0.first_low, c.requires.1.first-is), omega (arith, c.requires.2))
-
-pub put_later_counts-requires : goal.put_later_counts-requires
-put_later_counts-requires c =
-    let g = c.requires.0 in
-    let r = c.requires.1 in
-    (g, r, omega (arith, rows _ _ g r, put_long (first_put _ _ g r _ _ c.requires.2 c.copy.ensures), c.requires.2))
-
-pub overflow_mul-z : goal.overflow_mul-z
-overflow_mul-z c = search (rules, rows _ _ c.requires.0 c.requires.1, c.requires.2)
-
-pub overflow_add-at-3 : goal.overflow_add-at-3
-overflow_add-at-3 c = search (rules, rows _ _ c.requires.0 c.requires.1, c.requires.2)
-
-pub fill-requires : goal.fill-requires
-fill-requires c =
-    let g = c.requires.0 in
-    let r = c.requires.1 in
-    omega (arith, rows _ _ g r, put_long (later_put _ _ g r _ _ c.requires.2 c.copy.ensures c.put_later_counts.ensures), c.requires.2)
-
 pub returns : goal.returns
 returns c =
     let g = c.requires.0 in
     let r = c.requires.1 in
     let z = c.args.z in
+    let t = c.args.t.now in
+    let o = c.args.out.now in
+    let at = c.args.at in
     let m = z.h - 1 in
-    let w = rows c.args.t.now z g r in
-    let i : c.args.at + 1 + m * z.n ≡ c.args.at + (1 + m * z.n) = omega arith in
-    let p =
-    put_more (later_put _ _ g r _ _ c.requires.2 c.copy.ensures c.put_later_counts.ensures) (c.args.at + 1 + m * z.n) z.n (replicate z.n (pos 1))
-    c.fill.ensures i (length-replicate z.n (pos 1)) (omega (arith, w, c.requires.2)) in
+    let w = rows t z g r in
+    let fits : mag (get_or t (5 + z.first) (pos 0)) < 2147483648 = search rules in
+    let one = one_copied o t at (5 + z.first) (omega (arith, c.requires.2)) (omega (arith, g.exact, g.first_low, r.first-is)) fits in
+    let p = later_put t z g r o at c.requires.2 one c.put_later_counts.ensures in
+    let i : at + 1 + m * z.n ≡ at + (1 + m * z.n) = omega arith in
+    let e = part_filled c.put_later_counts.new.out (at + 1 + m * z.n) z.n (pos 1) (omega (arith, put_long p, w, c.requires.2)) (c.fill.ensures.after (λ y h. h)) in
     let q : 1 + m * z.n + z.n ≡ 1 + z.h * z.n = omega (arith, w) in
-    p.is ∙ ap₂ (written c.args.out.now c.args.at) q (counts_of c.args.t.now z r)
+    (put_more p (at + 1 + m * z.n) z.n (replicate z.n (pos 1)) e i (length-replicate z.n (pos 1)) (omega (arith, w, c.requires.2))).is
+    ∙ ap₂ (written o at) q (counts_of t z r)

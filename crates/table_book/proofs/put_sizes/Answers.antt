@@ -1,4 +1,4 @@
--- One word after another.
+-- Each size is small.
 -- Assumes nothing.
 use mathlib.Core.Path.{◌≡◌}
 use Prim.Native.Nat.{ℕ, ◌≤◌}
@@ -12,14 +12,8 @@ use Rattle.table_book.proofs.put_sizes.Goals as goal
 
 pub returns : goal.returns
 returns c =
-    let e₅ = c in
-    let e₄ = e₅ in
-    let e₃ = e₄ in
-    let e₂ = e₃ in
-    let e₁ = e₂ in
-    let s = e₁ in
+    let a = c.args in
+    let q = c.requires in
     let fit : (k : ℕ) → k ≤ 32768 → to_z w32 k ≡ pos k = λ k l. to_z_pos w32 {n = k} (omega arith) in
-    (sizes_put s.requires.4 (fit s.args.z.d (omega (arith, s.requires.0))) (fit s.args.z.h (omega (arith, s.requires.1)))
-    (fit s.args.lines s.requires.3)
-    (fit s.args.z.n (omega (arith, s.requires.2))) e₁.fill.ensures e₂.fill-2.ensures e₃.fill-3.ensures e₄.fill-4.ensures
-    e₅.fill-5.ensures).is
+    sizes_put a.out.now q.4 (fit a.z.d (omega (arith, q.0))) (fit a.z.h (omega (arith, q.1))) (fit a.lines q.3) (fit a.z.n (omega (arith, q.2)))
+    (c.fill.ensures.after (λ y h. h))

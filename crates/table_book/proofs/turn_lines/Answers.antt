@@ -1,78 +1,57 @@
 -- Assumes nothing.
-use mathlib.Core.Path.{◌≡◌, refl, ap, ◌∙◌}
-use Prim.Native.Nat.{◌+◌, ◌-◌, ◌<◌}
+use mathlib.Core.Path.{◌≡◌, sym, ap, ◌∙◌, subst}
+use Prim.Native.Nat.{◌+◌, ◌-◌, ◌≤◌, ◌<◌}
 use native.Mathlib.Omega.{arith}
-use Rattle.book.proofs.Words.{read32}
-use Rattle.bytes_io.proofs.Parts.{fill_start, fill_one, fill_end}
+use lib.IntN.{ℤ, pos, nat_abs, ◌-ℤ◌}
+use lib.ListN.{get_or}
+use lib.Signed.{mag}
+use mir.Syntax.{w32}
+use mir.Val.{SFits, to_z, of_z}
+use mir.Facts.{to_z-of_z}
+use borrow.Author.Rules.{rules}
+use Rattle.model.specs.Model.{word}
 use Rattle.reward_table.specs.Table.{table_left, table_right}
 use Rattle.reward_table.proofs.Facts.{left_at, right_at}
 use Rattle.table_book.specs.Columns.{turned, rest_after}
-use Rattle.table_book.proofs.Turns.{turned_step, turnable_step}
-use borrow.Author.Rules.{rules}
+use Rattle.table_book.proofs.Turns.{reward-fits, neg-fits, turn_first, turn_later, rest-none, rest_some, turnable_step, turn_put}
 use Rattle.table_book.proofs.turn_lines.Goals as goal
-use Rattle.table_book.proofs.turn_lines.Goals.{After-word_at}
+use Rattle.table_book.proofs.turn_lines.Goals.{then-rest-eq0, else-rest-eq0, At-loop-i}
 
-pub loop-i-init : goal.loop-i-init
-loop-i-init c =
-    let s = c in
-    let z : s.args.count - 0 ≡ s.args.count = omega arith in
-    let w : s.args.j + 0 ≡ s.args.j = omega arith in
-    rw (z, w) (fill_start _ _ _ _, s.requires.3)
+-- the word on the right of the line
+right-word : (c : goal.At-loop-i) → get_or c.args.t.now (c.args.z.columns + c.args.j + c.args.z.l + c.loop-i.i) (pos 0) ≡ table_right c.args.t.now (c.args.j + c.loop-i.i)
+unfolding word
+right-word c = right_at c.args.t.now c.args.z c.requires.1 (c.args.j + c.loop-i.i) _ (omega arith)
 
-pub overflow_add-right-in-loop-i : goal.overflow_add-right-in-loop-i
-overflow_add-right-in-loop-i c = let s = c in search (rules, s.requires.0.exact, s.requires.1.columns_is)
+small : (c : goal.At-loop-i) → c.loop-i.i < c.args.count → c.loop-i.rest ≡ 0 → nat_abs (table_right c.args.t.now (c.args.j + c.loop-i.i)) ≤ 100000
+small c l e = (turnable_step _ c.loop-i.rest _ c.loop-i.i _ l c.loop-i.invariant.1).0 e
 
-pub word_at-requires : goal.word_at-requires
-word_at-requires c =
-    let s = c in
-    omega (arith, s.requires.0.exact, s.requires.1.columns_is, s.requires.1.l_is, s.requires.2)
-
--- the word that was read is the right word of the line
-right-word : (c : goal.After-word_at) →
-    let l = c in
-    let s = l in c.word_at.result ≡ table_right s.args.t.now (s.args.j + l.loop-i.i)
-right-word c =
-    let l = c in
-    let s = l in
-    c.word_at.ensures ∙ right_at s.args.t.now s.args.z s.requires.1 (s.args.j + l.loop-i.i) _ (omega arith)
-
-pub turn-requires : goal.turn-requires
-turn-requires c z =
-    let l = c in
-    rw (read32 c.word_at.result c.word_at.type_inv, right-word c)
-    ((turnable_step _ l.loop-i.rest _ l.loop-i.i _ c.loop-i-test.true l.loop-i.invariant.1).0 z)
-
-pub overflow_add-left-in-loop-i : goal.overflow_add-left-in-loop-i
-overflow_add-left-in-loop-i c = let s = c in search (rules, s.requires.0.exact, s.requires.1.columns_is)
-
-pub rest_after-rest-requires : goal.rest_after-rest-requires
-rest_after-rest-requires c =
-    let s = c in
-    omega (arith, s.requires.0.exact, s.requires.1.columns_is, s.requires.1.l_is, s.requires.2)
+pub overflow_sub-out : goal.overflow_sub-out
+overflow_sub-out c =
+    let l = (goal.at.overflow_sub-out c).At-loop-i in
+    let x = table_right c.args.t.now (c.args.j + c.loop-i.i) in
+    let s = small l c.loop-i-test.true c.if-rest-eq0.true in
+    rw (right-word l, to_z-of_z (reward-fits x s)) (neg-fits x s)
 
 pub loop-i-preserved : goal.loop-i-preserved
 loop-i-preserved c =
-    let u = c in
-    let w = u in
-    let l = w in
-    let s = l in
-    let t = s.args.t.now in
-    let i = l.loop-i.i in
-    let m : i < s.args.count = w.loop-i-test.true in
-    let x = table_right t (s.args.j + i) in
-    let e : u.turn.result ≡ turned l.loop-i.rest x
-    = u.turn.ensures ∙ ap (turned l.loop-i.rest) (read32 w.word_at.result w.word_at.type_inv ∙ right-word (goal.at.loop-i-preserved w).After-word_at) in
-    let f : c.rest_after-rest.result ≡ rest_after l.loop-i.rest (table_left t (s.args.j + i))
-    = c.rest_after-rest.ensures ∙ ap (rest_after l.loop-i.rest) (left_at t s.args.z s.requires.1 (s.args.j + i) _ (omega arith)) in
-    rw (read32 u.turn.result u.turn.type_inv, e, f) (
-      fill_one _ _ _ _ s.requires.4 l.loop-i.invariant.0 (turned l.loop-i.rest x) _ refl (omega arith)
-          (turned_step t l.loop-i.rest s.args.j i s.args.count m),
-      (turnable_step t l.loop-i.rest s.args.j i s.args.count m l.loop-i.invariant.1).1,
-    )
-
-pub returns : goal.returns
-returns c =
-    let l = c.loop-i in
-    let s = c in
-    let z : s.args.count - l.i ≡ 0 = omega arith in
-    fill_end _ _ _ _ s.requires.4 l.invariant.0 (omega arith) (rw z)
+    let l = (goal.at.loop-i-preserved c).At-loop-i in
+    let a = c.args in
+    let t = a.t.now in
+    let rest = c.loop-i.rest in
+    let i = c.loop-i.i in
+    let x = table_right t (a.j + i) in
+    let more = c.loop-i-test.true in
+    let h = c.loop-i.invariant in
+    let fits : mag (get_or t (a.z.columns + a.j + a.z.l + i) (pos 0)) < 2147483648 = search rules in
+    elim c.if-rest-eq0.branch [
+      then-rest-eq0 w ↦
+          turn_put t a.out.now a.at a.j a.count _ c.requires.4 rest i more h.0 h.1 w.out-is
+          (ap (λ (y : ℤ). to_z w32 (of_z w32 (pos 0 -ℤ to_z w32 (of_z w32 y)))) (right-word l)
+          ∙ turn_first rest x w.if-rest-eq0.true (small l more w.if-rest-eq0.true))
+          (w.rest-is ∙ w.size_at-rest.ensures.is ∙ ap nat_abs (left_at t a.z c.requires.1 (a.j + i) _ (omega arith))
+          ∙ rest-none rest _ w.if-rest-eq0.true)
+    | else-rest-eq0 w ↦
+          turn_put t a.out.now a.at a.j a.count _ c.requires.4 rest i more h.0 h.1 w.out-is
+          (ap (λ (y : ℤ). to_z w32 (of_z w32 y)) (right-word l) ∙ turn_later rest x w.if-rest-eq0.false (rw (right-word l) at fits))
+          (w.rest-is ∙ rest_some rest _ w.if-rest-eq0.false)
+    ]
