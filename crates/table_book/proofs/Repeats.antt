@@ -8,7 +8,7 @@ use lib.IntN.{ℤ}
 use lib.ListN.{length, take, drop, length-append}
 use lib.Seq.{length-take-le, take-append-le, take-take, take-add, take_at, drop_at}
 use Rattle.bytes_io.specs.Slices.{written}
-use Rattle.bytes_io.proofs.Parts.{Filling, fill_start, fill_part, fill_end, written_none, written_join, length-written}
+use Rattle.bytes_io.proofs.Parts.{Filling, fill_start, fill_part, fill_end, written_join}
 use Rattle.table_book.specs.Columns.{repeated}
 use Rattle.table_book.proofs.Lists.{one_more, row_fits, last_row, copies_step}
 

@@ -14,9 +14,8 @@ use Rattle.reward_table.specs.declared.Table.{Table}
 use Rattle.table_book.specs.Columns.{book_column, book_counts, book_sizes}
 use Rattle.table_book.specs.Read.{Passed, Made}
 use Rattle.table_book.specs.declared.Sizes.{Sizes}
-use Rattle.table_book.proofs.Puts.{Puts, put_long, put_more, put_front, sizes_count, states_split, book_of, counts_count, column_count}
+use Rattle.table_book.proofs.Puts.{Puts, put_more, put_front, sizes_count, states_split, book_of, counts_count, column_count}
 use Rattle.table_book.proofs.Puts.{length_split}
-use borrow.Author.Rules.{rules}
 use Rattle.table_book.proofs.put_book.Goals as goal
 
 -- ---- one part after another

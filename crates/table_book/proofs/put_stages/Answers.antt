@@ -1,7 +1,6 @@
 -- The first stage is written from the table, and the others after it are the same.
 -- Assumes nothing.
-use Prim.Native.Nat.{◌-◌, ◌<◌}
-use native.Mathlib.Omega.{arith}
+use Prim.Native.Nat.{◌-◌}
 use Rattle.table_book.specs.Columns.{column_from}
 use Rattle.table_book.proofs.Entries.{column_long}
 use Rattle.table_book.proofs.Repeats.{rep_more}

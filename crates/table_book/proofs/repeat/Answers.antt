@@ -5,7 +5,7 @@ use native.Mathlib.Omega.{arith}
 use lib.ListN.{take, drop, length-drop}
 use lib.Seq.{length-take-le}
 use Rattle.bytes_io.specs.Slices.{written}
-use Rattle.table_book.proofs.Repeats.{rep_start, rep_step, rep_kept, rep_end}
+use Rattle.table_book.proofs.Repeats.{rep_step, rep_kept, rep_end}
 use Rattle.table_book.proofs.repeat.Goals as goal
 
 pub loop-k-preserved : goal.loop-k-preserved

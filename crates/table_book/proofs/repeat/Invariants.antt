@@ -1,6 +1,5 @@
 -- The runs still to be written, written over what stands there now, give the result; the one that they are copied from stays.
 -- Assumes nothing.
-use Prim.Native.Nat.{◌-◌}
 use lib.ListN.{take, drop}
 use Rattle.table_book.proofs.Repeats.{Repeating}
 use Rattle.table_book.proofs.repeat.Given as goal

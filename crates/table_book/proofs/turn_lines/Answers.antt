@@ -1,18 +1,17 @@
 -- Assumes nothing.
-use mathlib.Core.Path.{◌≡◌, sym, ap, ◌∙◌, subst}
-use Prim.Native.Nat.{◌+◌, ◌-◌, ◌≤◌, ◌<◌}
+use mathlib.Core.Path.{◌≡◌, ap, ◌∙◌}
+use Prim.Native.Nat.{◌+◌, ◌≤◌, ◌<◌}
 use native.Mathlib.Omega.{arith}
 use lib.IntN.{ℤ, pos, nat_abs, ◌-ℤ◌}
 use lib.ListN.{get_or}
 use lib.Signed.{mag}
 use mir.Syntax.{w32}
-use mir.Val.{SFits, to_z, of_z}
+use mir.Val.{to_z, of_z}
 use mir.Facts.{to_z-of_z}
 use borrow.Author.Rules.{rules}
 use Rattle.model.specs.Model.{word}
-use Rattle.reward_table.specs.Table.{table_left, table_right}
+use Rattle.reward_table.specs.Table.{table_right}
 use Rattle.reward_table.proofs.Facts.{left_at, right_at}
-use Rattle.table_book.specs.Columns.{turned, rest_after}
 use Rattle.table_book.proofs.Turns.{reward-fits, neg-fits, turn_first, turn_later, rest-none, rest_some, turnable_step, turn_put}
 use Rattle.table_book.proofs.turn_lines.Goals as goal
 use Rattle.table_book.proofs.turn_lines.Goals.{then-rest-eq0, else-rest-eq0, At-loop-i}
@@ -44,13 +43,13 @@ loop-i-preserved c =
     let h = c.loop-i.invariant in
     let fits : mag (get_or t (a.z.columns + a.j + a.z.l + i) (pos 0)) < 2147483648 = search rules in
     elim c.if-rest-eq0.branch [
-      then-rest-eq0 w ↦
+      | then-rest-eq0 w ↦
           turn_put t a.out.now a.at a.j a.count _ c.requires.4 rest i more h.0 h.1 w.out-is
           (ap (λ (y : ℤ). to_z w32 (of_z w32 (pos 0 -ℤ to_z w32 (of_z w32 y)))) (right-word l)
           ∙ turn_first rest x w.if-rest-eq0.true (small l more w.if-rest-eq0.true))
           (w.rest-is ∙ w.size_at-rest.ensures.is ∙ ap nat_abs (left_at t a.z c.requires.1 (a.j + i) _ (omega arith))
           ∙ rest-none rest _ w.if-rest-eq0.true)
-    | else-rest-eq0 w ↦
+      | else-rest-eq0 w ↦
           turn_put t a.out.now a.at a.j a.count _ c.requires.4 rest i more h.0 h.1 w.out-is
           (ap (λ (y : ℤ). to_z w32 (of_z w32 y)) (right-word l) ∙ turn_later rest x w.if-rest-eq0.false (rw (right-word l) at fits))
           (w.rest-is ∙ rest_some rest _ w.if-rest-eq0.false)
