@@ -9,7 +9,7 @@ use borrow.Author.Tests.{le-leb, lt-leb}
 use lib.Dec.{leb}
 use lib.IntN.{ℤ, pos, nat_abs}
 use lib.ListN.{length, take, drop, length-append, length-drop}
-use lib.Seq.{take_at, take_all}
+use lib.Seq.{take_at}
 use Rattle.model.specs.Lists.{all}
 use Rattle.model.specs.Model.{Words, word, horizon, state_count}
 use Rattle.model.specs.Questions.{first_no, inside, later_size, sizes_allowed, size_questions, book_number}
@@ -17,8 +17,8 @@ use Rattle.model.specs.Calls.{over}
 use Rattle.questions.specs.Ranges.{and_right}
 use Rattle.questions.specs.FirstNo.{AllYes, fails, passes, passed, none}
 use Rattle.questions.specs.Answers.{stops, goes_on, leaves, gives}
-use Rattle.bytes_io.specs.Slices.{written}
-use Rattle.bytes_io.proofs.Parts.{written-front}
+use Rattle.refusal.specs.Refusal.{number_of, some_number}
+use Rattle.refusal.specs.declared.Refusal.{Refusal}
 use Rattle.check_book.proofs.Numbers.{of_sizes}
 use Rattle.reward_table.specs.Table.{table_scale, table_horizon, table_states, lines_given, table_questions}
 use Rattle.reward_table.specs.Read.{Given, TableRead}
@@ -28,7 +28,6 @@ use Rattle.reward_table.specs.Convert.{table_book, convert_number, convert_lengt
 use Rattle.table_book.specs.Columns.{book_lines}
 use Rattle.table_book.specs.Read.{Passed, Made}
 use Rattle.table_book.specs.declared.Sizes.{Sizes}
-use Rattle.convert.specs.declared.Converted.{Converted}
 use Rattle.table_book.proofs.Book.{book-scale, book-horizon, book_lines_lem, book-states, book_long}
 
 within : (lo hi x : ℕ) → lo ≤ x → x ≤ hi → inside (pos lo) (pos hi) (pos x) ≡ true
@@ -117,20 +116,20 @@ module _ {t : Words} {z : Table} {s : Sizes} (p : Passed t z) (made : Made t s) 
   pub short : s.lines ≤ 2048 → s.states ≤ 64 → s.length ≤ 4172
   short h k = omega (arith, made.length_is, p.given.h_high)
 
--- the whole answer
-abbrev pub Answer : Words → List ℤ → Converted → List ℤ → Type 0
-Answer t slice r after =
-    (r.no ≡ convert_number t (length slice)) × (r.length ≡ convert_length t (length slice)) × (after ≡ convert_slice t slice)
+-- what goes with the number: a refusal leaves the slice, and success gives the length and the book
+module _ (t : Words) (slice : List ℤ) where
+  pub kept : (q : Refusal) → number_of q ≡ convert_number t (length slice) → slice ≡ convert_slice t slice
+  unfolding convert_slice
+  kept q e = leaves e (some_number q) _ slice
 
-pub refusal : (t : Words) (slice : List ℤ) (n : ℕ) → n ≡ convert_number t (length slice) → (n ≡ 0 → ⊥)
-    → (r : Converted) → (r.no ≡ n) × (r.length ≡ 0) → Answer t slice r slice
-unfolding convert_length convert_slice
-refusal t slice n e h r q = (q.0 ∙ e, q.1 ∙ leaves e h _ 0, leaves e h _ slice)
+  module _ (ok : 0 ≡ convert_number t (length slice)) where
+    pub long_given : (n : ℕ) → n ≡ length (table_book t) → n ≡ convert_length t (length slice)
+    unfolding convert_length
+    long_given n e = gives (sym ok) 0 e
 
-pub success : (t : Words) (slice after : List ℤ) → 0 ≡ convert_number t (length slice) → (n : ℕ) → n ≡ length (table_book t)
-    → after ≡ over (table_book t) slice → Answer t slice (record { no = 0; length = n }) after
-unfolding convert_length convert_slice
-success t slice after e n l q = (e, gives (sym e) 0 l, gives (sym e) slice q)
+    pub book_given : (after : List ℤ) → after ≡ over (table_book t) slice → after ≡ convert_slice t slice
+    unfolding convert_slice
+    book_given after e = gives (sym ok) slice e
 
 -- ---- a list over the front of another
 
@@ -139,7 +138,3 @@ over_long xs o h = length-append xs (drop (length xs) o) ∙ omega (arith, lengt
 
 pub over-front : (xs o : List ℤ) (n : ℕ) → length xs ≡ n → take n (over xs o) ≡ xs
 over-front xs o n e = take_at xs (drop (length xs) o) n e
-
--- what is copied whole
-pub copied : (xs slice : List ℤ) (n : ℕ) → length xs ≡ n → written slice 0 n (take n (drop 0 xs)) ≡ over xs slice
-copied xs slice n e = ap (written slice 0 n) (take_all n xs (omega (arith, e))) ∙ written-front slice n xs e

@@ -13,13 +13,6 @@ use refusal::Refusal;
 use reward_table::Table;
 use table_book::Sizes;
 
-// Room for a book of at most 512 words: the longest has 4,172, and clearing so many would take longer than a short book does.
-fn short_room() -> [i32; 512]
-    ensures { length result ≡ 512 }
-{
-    [0; 512]
-}
-
 // The book of a table that passes 25 and 26, where a book of its length has room in both slices. It is made and checked in the first, since a refusal writes
 // nothing to the second.
 fn put_checked(t: &[i32], z: Table, s: Sizes, book: &mut [i32], out: &mut [i32]) -> Result<usize, Refusal>
@@ -31,7 +24,7 @@ fn put_checked(t: &[i32], z: Table, s: Sizes, book: &mut [i32], out: &mut [i32])
     let length = s.length;
     table_book::put_book(t, z, s, book);
     check_book::check(&book[..length])?;
-    table_book::copy(&book[..length], 0, length, out, 0);
+    out[..length].copy_from_slice(&book[..length]);
     Ok(length)
 }
 
@@ -53,10 +46,10 @@ pub fn convert(t: &[i32], out: &mut [i32]) -> Result<usize, Refusal>
     if 64 < s.states {
         return Err(Refusal::StageSizes);
     }
+    // the longest book has 4,172 words, and clearing so many takes longer than a short book does
     if s.length <= 512 {
-        let mut room = short_room();
-        return put_checked(t, z, s, &mut room, out);
+        put_checked(t, z, s, &mut [0; 512], out)
+    } else {
+        put_checked(t, z, s, &mut [0; 4172], out)
     }
-    let mut room = record::no_book();
-    put_checked(t, z, s, &mut room, out)
 }

@@ -26,19 +26,6 @@ pub fn room() -> [u8; MOST_BOOK]
     [0; MOST_BOOK]
 }
 
-fn no_words() -> [i32; 4118]
-    ensures { length result ≡ 4118 }
-{
-    [0; 4118]
-}
-
-// Room for the book of any table: one that is too large is then refused by its own questions.
-fn no_book() -> [i32; 32775]
-    ensures { length result ≡ 32775 }
-{
-    [0; 32775]
-}
-
 // Of bytes of which every one counts.
 fn convert_counted(r: &[u8], out: &mut [u8]) -> usize
     requires { (length r.now ≤ most_table) × (most_book ≤ length out.old) }
@@ -48,9 +35,10 @@ fn convert_counted(r: &[u8], out: &mut [u8]) -> usize
         return page_lines::put_refused(out, Refusal::TableSizes);
     }
     let n = r.len() / 4;
-    let mut words = no_words();
+    let mut words = [0; 4118];
     bytes_io::read_words(r, 0, n, &mut words);
-    let mut book = no_book();
+    // room for the book of any table: one that is too large is then refused by its own questions
+    let mut book = [0; 32775];
     match convert::convert(&words[..n], &mut book) {
         Ok(length) => {
             bytes_io::write_words(out, 0, &book[..length]);
@@ -67,8 +55,5 @@ pub fn convert_bytes(r: &[u8], out: &mut [u8]) -> usize
     if out.len() < MOST_BOOK {
         return 0;
     }
-    if r.len() < MOST_TABLE {
-        return convert_counted(r, out);
-    }
-    convert_counted(&r[..MOST_TABLE], out)
+    convert_counted(&r[..r.len().min(MOST_TABLE)], out)
 }
