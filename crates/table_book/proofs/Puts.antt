@@ -18,7 +18,7 @@ use Rattle.model.specs.Model.{Words, word}
 use Rattle.model.specs.Calls.{over}
 use Rattle.laws.specs.Joined.{mapped_raised}
 use Rattle.bytes_io.specs.Slices.{written}
-use Rattle.bytes_io.proofs.Parts.{length-written, written_join, written-front, set-written, four}
+use Rattle.bytes_io.proofs.Parts.{length-written, written_join, written-front, set-written}
 use Rattle.reward_table.specs.Table.{table_states, table_first, table_lines, table_left}
 use Rattle.reward_table.specs.Read.{Given, TableRead}
 use Rattle.reward_table.specs.declared.Table.{Table}
@@ -85,13 +85,13 @@ module _ {d h n lines : ℕ} (o : List ℤ) (fits : 4 + h ≤ length o) {a b c f
       → put_mid 4 (4 + h - 4) (set (set (set (set o 0 a) 1 b) 2 c) 3 (pos 1)) ys ≡ written o 0 (4 + h) (book_sizes d h n lines)
   unfolding book_sizes
   sizes_put i j k l e =
-      let q = four o 0 a b c (pos 1) (omega arith) in
-      let xs = a ∷ b ∷ c ∷ pos 1 ∷ [] in
-      let p : Puts o 0 4 xs (written o 0 4 xs) = record { is = refl; count = refl; fits = omega arith } in
-      rw (← i, ← j, ← k, ← l)
-      (part_filled (set (set (set (set o 0 a) 1 b) 2 c) 3 (pos 1)) 4 h f (rw q (omega (arith, put_long p))) e
-      ∙ ap (λ (zs : List ℤ). written zs 4 h (replicate h f)) q
-      ∙ (put_more p 4 h (replicate h f) refl refl (length-replicate h f) (omega arith)).is)
+      let p₁ : Puts o 0 1 (a ∷ []) (set o 0 a) = record { is = set-written o 0 a (omega arith); count = refl; fits = omega arith } in
+      let p₂ = put_more p₁ 1 1 (b ∷ []) (set-written _ 1 b (omega (arith, put_long p₁))) refl refl (omega arith) in
+      let p₃ = put_more p₂ 2 1 (c ∷ []) (set-written _ 2 c (omega (arith, put_long p₂))) refl refl (omega arith) in
+      let p₄ = put_more p₃ 3 1 (pos 1 ∷ []) (set-written _ 3 (pos 1) (omega (arith, put_long p₃))) refl refl (omega arith) in
+      let p₅ = put_more p₄ 4 h (replicate h f) (part_filled _ 4 h f (omega (arith, put_long p₄)) e) refl (length-replicate h f) (omega arith) in
+      let q : 1 + 1 + 1 + 1 + h ≡ 4 + h = omega arith in
+      rw (← i, ← j, ← k, ← l, ← q) p₅.is
 
 pub sizes_count : (d h n lines : ℕ) → length (book_sizes d h n lines) ≡ 4 + h
 unfolding book_sizes
