@@ -163,18 +163,6 @@ module _ (ws : Words) (n : ℕ) (l : n < 64) (off : List ℕ) (dead mask : ℕ) 
           (subst (Leaves ws n) (sym (get_or-set_same off n mask 0 (omega (arith, h.long)))) here)
       go (inr k) = subst (Leaves ws p) (sym (get_or-set_other off n p mask 0 (λ e. omega arith))) (h.leaves p (omega arith) b)
 
-  pub barred_alive : is_empty (feasible ws n) ≡ false → BarredFrom ws n (set off n mask) dead
-  barred_alive e = record {
-    long = length-set off n mask ∙ h.long;
-    leaves = leaves-more;
-    dead_is = λ p a b. go p b (eq-or-lt_of_le a);
-    fresh = λ p k. h.fresh p (omega arith);
-  }
-    where
-      go : (p : ℕ) → p < state_count ws → (n ≡ p) ⊎ (n < p) → has dead p ≡ is_empty (feasible ws p)
-      go p b (inl k) = h.fresh p (omega arith) ∙ sym (ap (λ (q : ℕ). is_empty (feasible ws q)) (sym k) ∙ e)
-      go p b (inr k) = h.dead_is p (omega arith) b
-
   pub barred_dead : is_empty (feasible ws n) ≡ true → BarredFrom ws n (set off n mask) (with dead n)
   barred_dead e = record {
     long = length-set off n mask ∙ h.long;

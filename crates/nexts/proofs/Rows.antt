@@ -6,18 +6,15 @@ use mathlib.Core.List.{List}
 use Prim.Native.Nat.{ℕ, ◌+◌, ◌*◌, ◌≤◌, ◌<◌}
 use native.Mathlib.Nat.{eq-or-lt_of_le}
 use native.Mathlib.Omega.{arith}
-use lib.ListN.{length, get_or, set, length-set}
+use lib.ListN.{get_or, set, length-set}
 use lib.Seq.{get_or-set_same, get_or-set_other}
-use Rattle.model.specs.Model.{Words, state_count, action_count, action}
+use Rattle.model.specs.Model.{Words, action_count, action}
 use Rattle.model.specs.Policy.{nexts}
 use Rattle.accepted.specs.Options.{Feasible, option_below, to_option}
 use Rattle.sets.specs.Sets.{SetOf}
-use Rattle.nexts.specs.Nexts.{NextsTo, NextsOf}
+use Rattle.nexts.specs.Nexts.{NextsTo}
 
 module _ (ws : Words) where
-  pub none_filled : (t : List ℕ) → length t ≡ 512 → NextsTo ws 0 0 t
-  none_filled t l = record { long = l; before = λ p c h k. absurd (omega arith); row = λ c h k. absurd (omega arith) }
-
   -- action m of state n is none that a policy can take
   pub one_skipped : (n m : ℕ) (t : List ℕ) → NextsTo ws n m t → (Feasible ws n m → ⊥) → NextsTo ws n (m + 1) t
   one_skipped n m t f never = record { long = f.long; before = f.before; row = λ c h k. go c k (eq-or-lt_of_le (le c h)) }
@@ -65,6 +62,3 @@ module _ (ws : Words) where
           let i : Feasible ws n c = subst (λ (q : ℕ). Feasible ws q c) e k in
           rw e (f.row c (option_below ws n (to_option ws n c i)) i)
       go p c (inr l) k = f.before p c l k
-
-  pub all_filled : (n : ℕ) (t : List ℕ) → state_count ws ≤ n → NextsTo ws n 0 t → NextsOf ws t
-  all_filled n t h f = record { long = f.long; at = λ p c l k. f.before p c (omega arith) k }

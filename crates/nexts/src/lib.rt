@@ -19,9 +19,8 @@ pub fn next_set(b: &[i32], a: Lines, p: usize, c: usize) -> u64
     requires { LinesOf b.now p c a }
     ensures { SetOf result (nexts (action b.now p c).transitions) }
 {
-    let r = a.r;
     let mut set: u64 = 0;
-    for i in 0..r {
+    for i in 0..a.r {
         let q = lines::next(b, a, p, c, i);
         set = set.with(q);
     }
@@ -38,8 +37,7 @@ fn fill_state(b: &[i32], z: Sizes, x: &[usize; 192], p: usize, off: u8, t: &mut 
     for c in 0..n {
         if !off.has(c) {
             let a = lines::of_line(b, z, x, p, c, j);
-            let y = next_set(b, a, p, c);
-            t[8 * p + c] = y;
+            t[8 * p + c] = next_set(b, a, p, c);
         }
         j = index::line_after(b, z, p, c, j);
     }
@@ -56,9 +54,7 @@ pub fn fill_sets(b: &[i32], z: Sizes, x: &[usize; 192], off: &[u8; 64], t: &mut 
     requires { Indexed b.now z x.now × BarredOf b.now off.now × (length t.old ≡ 512) }
     ensures { NextsOf b.now t.new }
 {
-    let s = z.s;
-    for p in 0..s {
-        let mask = off[p];
-        fill_state(b, z, x, p, mask, t);
+    for p in 0..z.s {
+        fill_state(b, z, x, p, off[p], t);
     }
 }

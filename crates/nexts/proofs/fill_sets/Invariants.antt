@@ -1,9 +1,7 @@
 -- The states before p have their entries.
 -- Assumes nothing.
-use Prim.Native.Nat.{◌-◌, ◌≤◌}
-use Rattle.model.specs.Model.{state_count}
 use Rattle.nexts.specs.Nexts.{NextsTo}
 use Rattle.nexts.proofs.fill_sets.Given as goal
 
 abbrev pub invariant-loop-p : goal.invariant-loop-p
-invariant-loop-p l = (l.p ≤ state_count l.b) × NextsTo l.b l.p 0 l.t
+invariant-loop-p l = NextsTo l.b l.p 0 l.t
