@@ -144,16 +144,3 @@ module _ (ws : Words) (ok : book_number ws ≡ 0) (e : Entry) (ri : Right ws e) 
   pub action_or_none : (p : ℕ) → p < state_count ws → ActionOrNone ws e.plan p
   action_or_none p h =
       (omega (arith, policy_long ws ok e.plan (plan_model ws ok e ri)), byte-feasible ws ok e ri p h)
-
--- ---- a child, or none
-
-module _ (k : ℕ) (ws : Words) (bs : Policy) (p : ℕ) (d : Child) (es : List Entry) where
-  pub if_none : d.action ≡ 255 → joined_if k ws bs p d es ≡ es
-  if_none h = ap (λ (t : Bool). cond t es (joined k (child_of ws bs p d) es)) (eq-eqb d.action 255 h)
-
-  pub if_some : (d.action ≡ 255 → ⊥) → joined_if k ws bs p d es ≡ joined k (child_of ws bs p d) es
-  if_some h = ap (λ (t : Bool). cond t es (joined k (child_of ws bs p d) es)) (ne_eqb d.action 255 h)
-
-pub none_is : (ws : Words) (e : Entry) (p : ℕ) (d : Child) → d.action ≡ 255 → ((k : ℕ) (es : List Entry) → es ≡ admitted ws k e p es) → ChildIs ws
-    e p d
-none_is ws e p d h n = record { joins = λ k es. if_none k ws e.plan p d es h ∙ n k es; goes_on = inl h }

@@ -1,6 +1,6 @@
 -- The child of a listed candidate at a state, and what it adds to those that wait.
 -- Assumes nothing.
-use Rattle.std.specs.Prelude.{◌≡◌, cond, ◌⊎◌, List, [], ◌∷◌, ℕ, ◌+◌, ◌≤◌, ◌<◌, eqb, ℤ, get_or, take}
+use Rattle.std.specs.Prelude.{◌≡◌, cond, Option, Some, None, IfSome, List, [], ◌∷◌, ℕ, ◌+◌, ◌≤◌, ◌<◌, eqb, ℤ, get_or, take}
 use Rattle.model.specs.Lists.{insert, up_from}
 use Rattle.model.specs.Model.{Words, scale, state_count, togo, action_count, action}
 use Rattle.model.specs.Policy.{Policy}
@@ -55,11 +55,12 @@ joined k d es = take k (insert earlier_entry d es)
 abbrev pub admitted : Words → ℕ → Entry → ℕ → List Entry → List Entry
 admitted ws k e p es = admit earlier_entry itself k (add_if (splits_at e p) (left ws p (mask_at e p)) (child_entry ws e p) []) es
 
--- the entries after d joined them, if it is a child: the action 255 stands for none
-abbrev pub joined_if : ℕ → Words → Policy → ℕ → Child → List Entry → List Entry
-joined_if k ws bs p d es = cond (eqb d.action 255) es (joined k (child_of ws bs p d) es)
+-- the entries after the child joined them, if there is one
+abbrev pub joined_if : ℕ → Words → Policy → ℕ → Option Child → List Entry → List Entry
+joined_if k ws bs p None es = es
+joined_if k ws bs p (Some d) es = joined k (child_of ws bs p d) es
 
--- d is the child of e at state p, or none where there is none
-pub record ChildIs (ws : Words) (e : Entry) (p : ℕ) (d : Child) : Type 0 where
-  pub joins : (k : ℕ) (es : List Entry) → joined_if k ws e.plan p d es ≡ admitted ws k e p es
-  pub goes_on : (d.action ≡ 255) ⊎ Feasible ws p d.action
+-- r is the child of e at state p, or none where there is none
+pub record ChildIs (ws : Words) (e : Entry) (p : ℕ) (r : Option Child) : Type 0 where
+  pub joins : (k : ℕ) (es : List Entry) → joined_if k ws e.plan p r es ≡ admitted ws k e p es
+  pub goes_on : IfSome r (λ d. Feasible ws p d.action)

@@ -50,21 +50,8 @@ pub fn mask_at(split: usize, mask: u8, p: usize, f: usize) -> u8
     requires { f < 8 }
     ensures { result ≡ with (cond (eqb p split) mask 0) f }
 {
-    if p == split {
-        return mask.with(f);
-    }
-    0u8.with(f)
-}
-
-// No child: its action is 255.
-fn no_child() -> Child
-    ensures { result.action ≡ 255 }
-{
-    Child {
-        cost: 0,
-        action: 255,
-        mask: 0,
-    }
+    let before = if p == split { mask } else { 0 };
+    before.with(f)
 }
 
 // The best action of state p that is not in `mask`, the set barred when a candidate is split there, nor among those that no policy can take. After its
@@ -89,7 +76,8 @@ fn next_action(
     best[64 + p] as usize
 }
 
-// The child of e at state p, if e reaches p and an action is left there.
+// The child of e at state p, if e reaches p and an action is left there. 255 is no action: the byte of a state that is not reached (document 01), and the
+// answer of `next_action`, whose table has bytes.
 pub fn child_at(
     b: &[i32],
     z: Sizes,
@@ -99,23 +87,23 @@ pub fn child_at(
     plan: &[u8],
     e: Parent,
     p: usize,
-) -> Child
+) -> Option<Child>
     requires { Checked b.now z × RowsOf b.now q.now × BestOf b.now best.now × SecondOf b.now best.now × Parenting b.now e plan.now w.now × (e.split ≤ p) × (p < state_count b.now) }
     ensures { ChildIs b.now (entry_of e plan.now) p result }
 {
     let f = plan[p] as usize;
     if f == 255 {
-        return no_child();
+        return None;
     }
     let mask = mask_at(e.split, e.mask, p, f);
     let c = next_action(b, z, q, best, e.split, p, mask);
     if c == 255 {
-        return no_child();
+        return None;
     }
     let cost = child_cost(q, w, p, c, f, e.cost);
-    Child {
+    Some(Child {
         cost: cost,
         action: c,
         mask: mask,
-    }
+    })
 }

@@ -1,83 +1,94 @@
 -- A child of the listed candidate joins those that wait, or stays out.
 -- Assumes nothing.
-use mathlib.Core.Path.{◌≡◌, refl, sym, ap, ◌∙◌}
-use mathlib.Core.Bool.{Bool, true, false, not}
+use mathlib.Core.Path.{◌≡◌, refl, sym, ap, ◌∙◌, subst}
+use mathlib.Core.Bool.{true}
 use mathlib.Core.List.{List, [], ◌∷◌}
-use Prim.Native.Nat.{ℕ}
-use native.Mathlib.Decide.{ℕ_discrete}
+use Prim.Native.Nat.{ℕ, ◌+◌, ◌*◌, ◌≤◌, ◌<◌}
 use native.Mathlib.Omega.{arith}
-use borrow.Author.Tests.{eq-eqb, ne_eqb}
 use lib.IntN.{ℤ}
-use lib.ListN.{get_or, take}
+use lib.ListN.{set, get_or, take}
+use lib.Seq.{paste}
 use Rattle.model.specs.Model.{Words, state_count, action}
 use Rattle.model.specs.Policy.{Policy}
+use Rattle.accepted.specs.Facts.{accepted}
+use Rattle.book.specs.declared.Sizes.{Sizes}
+use Rattle.index.specs.Index.{Checked}
 use Rattle.build.specs.Walk.{walk_by, chosen}
 use Rattle.build.proofs.Prefix.{walk_long}
 use Rattle.stored.specs.Entry.{Entry}
 use Rattle.pool.specs.declared.Pool.{Pool}
-use Rattle.pool.specs.Entries.{entries, first_entry, Formed, beyond_of, Holding, Inserted}
-use Rattle.pool.proofs.Insertion.{beyond_kept}
-use Rattle.child.specs.Children.{entry_of, child_of, joined, joined_if}
-use Rattle.child.specs.declared.Parent.{Parent}
+use Rattle.pool.specs.Entries.{entries, Formed, beyond_of, earlier_than, first_yes, Holding, Inserted, Spare, moved_up}
+use Rattle.pool.proofs.Moves.{slot_low}
+use Rattle.pool.proofs.Insertion.{unchanged, place-before, filled_inserted, beyond_kept}
+use Rattle.child.specs.Children.{child_of, joined}
 use Rattle.child.specs.declared.Child.{Child}
-use Rattle.child.proofs.Children.{if_none, if_some}
-use Rattle.engine.specs.Engine.{RowOf, may_enter, ParentIs}
+use Rattle.engine.specs.Engine.{RowOf}
 use Rattle.engine.proofs.Parts.{row-take}
 
-pub parent_is : {e : Parent} {bs : Policy} (S : ℕ) (p : Pool) → ParentIs e p.costs p.splits p.barred (get_or p.order 0 0)
-    → bs ≡ (first_entry S p).plan → entry_of e bs ≡ first_entry S p
-parent_is S p h b = λ t. record { cost = h.cost_is t; plan = b t; split = h.split_is t; mask = h.mask_is t }
+pub few : {ws : Words} {z : Sizes} → Checked ws z → z.s ≤ 64
+few {ws} known = omega (arith, known.sizes.s_is, (accepted ws known.ok).sizes.s_high)
 
--- ---- one child, or none
-
-module _ (ws : Words) (bs : Policy) (p : ℕ) (d : Child) (pool : Pool) where
+module _ {ws : Words} {z : Sizes} (known : Checked ws z) (bs : Policy) (p : ℕ) (d : Child) (pool : Pool) (formed : Formed pool) where
   abbrev S : ℕ
   S = state_count ws
 
-  abbrev es : List Entry
-  es = entries S pool
-
   abbrev Joined : Pool → Type 0
-  Joined r = Holding S (joined_if pool.most ws bs p d es) pool r
+  Joined r = Holding S (joined pool.most (child_of ws bs p d) (entries S pool)) pool r
 
-  -- it does not enter
-  pub stays_out : Formed pool → may_enter pool.costs pool.order pool.count pool.most d ≡ false → Joined pool
-  stays_out formed out = go (ℕ_discrete d.action 255)
-    where
-      beyond : (d.action ≡ 255 → ⊥) → beyond_of pool.count pool.most d.cost pool.costs pool.order ≡ true
-      beyond h =
-          last (beyond_of pool.count pool.most d.cost pool.costs pool.order)
-          (rw (ne_eqb d.action 255 h) at out)
-        where
-          last : (t : Bool) → not t ≡ false → t ≡ true
-          last true n = refl
-          last false n = sym n
+  -- it costs more than the last of those that may wait
+  pub stays_out : beyond_of pool.count pool.most d.cost pool.costs pool.order ≡ true → Joined pool
+  stays_out h = beyond_kept pool S (child_of ws bs p d) formed h
 
-      go : Dec (d.action ≡ 255) → Joined pool
-      go (yes h) = record { formed = formed; same-most = refl; waits = sym (if_none pool.most ws bs p d es h) }
-      go (no h) =
-          record {
-            formed = formed;
-            same-most = refl;
-            waits = (beyond_kept pool S (child_of ws bs p d) formed (beyond h)).waits ∙ sym (if_some pool.most ws bs p d es h);
-          }
+  -- it is compared
+  module _ {row : List ℕ} (is : RowOf (walk_by (action ws) (chosen ws bs p d.action) S 0 (0 ∷ [])) row) {i : ℕ}
+      (place : i ≡ first_yes (earlier_than d.cost (take z.s row) z.s pool.costs pool.plans) (take pool.count pool.order)) where
+    enters : {r : Pool} → Inserted z.s (record { cost = d.cost; plan = take z.s row; split = p; mask = d.mask }) pool r → Joined r
+    enters {r} i =
+        let all = known.sizes.s_is in
+        let long = walk_long (action ws) (chosen ws bs p d.action) S 0 (0 ∷ []) in
+        let plan_is : take z.s row ≡ (child_of ws bs p d).plan = row-take z.s is (long ∙ sym all) in
+        record {
+          formed = i.formed;
+          same-most = i.same-most;
+          waits = ap (λ (n : ℕ). entries n r) (sym all) ∙ i.waits
+              ∙ (λ t. joined pool.most (record { cost = d.cost; plan = plan_is t; split = p; mask = d.mask }) (entries (all t) pool));
+        }
 
-  pub some_child : may_enter pool.costs pool.order pool.count pool.most d ≡ true → d.action ≡ 255 → ⊥
-  some_child may h =
-      let never : false ≡ true = rw (eq-eqb d.action 255 h) at may in
-      let z : ◌≡◌ {A = ℕ} 0 1 = cc in omega arith
+    -- others come before it
+    pub no_place : pool.most ≤ i → Joined pool
+    no_place h = enters (unchanged pool formed z.s (few known) d.cost row is.long p d.mask i place h)
 
-  -- it is inserted
-  pub enters : {s : ℕ} {x : ℤ} {bytes : List ℕ} {r : Pool} → (d.action ≡ 255 → ⊥) → s ≡ S → x ≡ d.cost
-      → RowOf (walk_by (action ws) (chosen ws bs p d.action) S 0 (0 ∷ [])) bytes
-      → Inserted s (record { cost = x; plan = take s bytes; split = p; mask = d.mask }) pool r → Joined r
-  enters {s} {x} {bytes} {r} some all cost_is row i =
-      let long = walk_long (action ws) (chosen ws bs p d.action) S 0 (0 ∷ []) in
-      let plan_is : take s bytes ≡ (child_of ws bs p d).plan = row-take s row (long ∙ sym all) in
-      record {
-        formed = i.formed;
-        same-most = i.same-most;
-        waits = ap (λ (n : ℕ). entries n r) (sym all) ∙ i.waits
-            ∙ (λ t. joined pool.most (record { cost = cost_is t; plan = plan_is t; split = p; mask = d.mask }) (entries (all t) pool))
-            ∙ sym (if_some pool.most ws bs p d es some);
-      }
+    -- it goes to the slot of place `last`, and that to place i
+    module _ {last : ℕ} (spare : (last < pool.most) × Spare last pool.count pool.most) (new : i < pool.most) where
+      pub before_last : i ≤ last
+      before_last = place-before pool formed z.s (few known) d.cost row is.long p d.mask i place last spare new
+
+      pub last_low : last < 64
+      last_low = omega (arith, spare.0, formed.most_high)
+
+      pub slot_small : get_or pool.order last 0 < 64
+      slot_small = slot_low formed.slots last last_low
+
+      pub placed : {ps o : List ℕ} → ps ≡ paste pool.plans (get_or pool.order last 0 * 64) row z.s → o ≡ moved_up i last pool.order
+          → Joined (record {
+            costs = set pool.costs (get_or pool.order last 0) d.cost;
+            plans = ps;
+            splits = set pool.splits (get_or pool.order last 0) p;
+            barred = set pool.barred (get_or pool.order last 0) d.mask;
+            order = o;
+            count = last + 1;
+            most = pool.most;
+          })
+      placed {ps} {o} hp ho =
+          enters
+          (subst (Inserted z.s (record { cost = d.cost; plan = take z.s row; split = p; mask = d.mask }) pool)
+          (λ t. record {
+            costs = set pool.costs (get_or pool.order last 0) d.cost;
+            plans = sym hp t;
+            splits = set pool.splits (get_or pool.order last 0) p;
+            barred = set pool.barred (get_or pool.order last 0) d.mask;
+            order = sym ho t;
+            count = last + 1;
+            most = pool.most;
+          })
+          (filled_inserted pool formed z.s (few known) d.cost row is.long p d.mask i place last spare new))

@@ -24,12 +24,6 @@ module _ (o : List ℕ) (a s S : ℕ) (same : s ≡ S) (room : a + s ≤ length 
         ∙ ap (λ (r : List ℕ). take a o ++ (xs ++ r)) (Post-is a (a + s) o (omega arith) ∙ ap (λ (n : ℕ). drop (a + n) o) same)
         ∙ sym (append_assoc (take a o) xs (drop (a + S) o))
 
-    pub put_read : take (a + s - a) (drop a (put_mid a (a + s - a) o ys)) ≡ xs
-    put_read =
-        let k : length ys ≡ a + s - a = ap length e ∙ long ∙ sym same ∙ omega arith in
-        ap (take (a + s - a)) (drop_at (take a o) (ys ++ drop (a + s - a) (drop a o)) a (length-take-le a o (omega arith)))
-        ∙ take_at ys (drop (a + s - a) (drop a o)) (a + s - a) k ∙ e
-
 -- bytes that stand before the rest of a row
 pub row_is : {o : List ℕ} (n : ℕ) (row bs : List ℕ) → o ≡ bs → length bs ≡ n → length row ≡ 64 → n ≤ 64 → RowOf bs (o ++ drop n row)
 row_is {o} n row bs e long all few =

@@ -1,6 +1,6 @@
 -- What the search asks of its parts and what each step makes of the pool.
 -- Assumes nothing.
-use Rattle.std.specs.Prelude.{◌≡◌, Bool, not, ◌&&◌, List, [], ◌∷◌, map, ℕ, ◌*◌, ◌≤◌, ◌<◌, ℤ, pos, eqb, length, get_or, take}
+use Rattle.std.specs.Prelude.{◌≡◌, List, [], ◌∷◌, map, ℕ, ◌*◌, ◌≤◌, ◌<◌, ℤ, length, take}
 use Rattle.model.specs.Lists.{for_each}
 use Rattle.model.specs.Order.{ranking, ranking_costs}
 use Rattle.model.specs.Calls.{over}
@@ -12,13 +12,14 @@ use Rattle.book.specs.declared.Sizes.{Sizes}
 use Rattle.index.specs.Index.{Indexed}
 use Rattle.nexts.specs.Nexts.{NextsOf}
 use Rattle.build.specs.Best.{RowsOf, BestOf, SecondOf}
-use Rattle.pool.specs.Entries.{beyond_of}
+use Rattle.pool.specs.declared.Pool.{Pool}
+use Rattle.pool.specs.Entries.{first_entry, Popped}
 use Rattle.splits.specs.Search.{admit}
 use Rattle.stored.specs.Entry.{Entry, earlier_entry}
 use Rattle.stored.specs.Children.{cost_of, child_entries}
 use Rattle.stored.specs.Runs.{itself, children_of, plan_of, cost_in}
-use Rattle.child.specs.declared.Child.{Child}
 use Rattle.child.specs.declared.Parent.{Parent}
+use Rattle.child.specs.Children.{entry_of}
 
 -- a checked book with its sizes and index, its sets of next states, its table of action costs and its first best actions
 pub record Ready (ws : Words) (z : Sizes) (x nx : List ℕ) (q : List ℤ) (best : List ℕ) : Type 0 where
@@ -32,10 +33,6 @@ pub record RowOf (bs r : List ℕ) : Type 0 where
   pub long : length r ≡ 64
   pub begins : take (length bs) r ≡ bs
 
--- there is a child d, and it may be kept where n of k wait
-abbrev pub may_enter : List ℤ → List ℕ → ℕ → ℕ → Child → Bool
-may_enter costs order n k d = not (eqb d.action 255) && not (beyond_of n k d.cost costs order)
-
 -- the entries after the children of e at the n states from p on joined them
 abbrev pub admitted_from : Words → ℕ → Entry → ℕ → ℕ → List Entry → List Entry
 admitted_from ws k e p n es = admit earlier_entry itself k (child_entries ws e p n) es
@@ -45,11 +42,11 @@ abbrev pub split_pool : Words → ℕ → List Entry → List Entry
 split_pool ws k [] = []
 split_pool ws k (e ∷ es) = admit earlier_entry itself k (children_of ws e) es
 
--- e is the candidate of slot i
-pub record ParentIs (e : Parent) (costs : List ℤ) (splits barred : List ℕ) (i : ℕ) : Type 0 where
-  pub cost_is : e.cost ≡ get_or costs i (pos 0)
-  pub split_is : e.split ≡ get_or splits i 0
-  pub mask_is : e.mask ≡ get_or barred i 0
+-- the first candidate of p, which is e with the bytes bs, is taken away, and r is left
+pub record Taken (s : ℕ) (p r : Pool) (e : Parent) (bs : Policy) : Type 0 where
+  pub popped : Popped p r
+  pub same-most : r.most ≡ p.most
+  pub first : entry_of e bs ≡ first_entry s p
 
 -- there is room for k policies of s bytes and their costs
 pub record Roomy (k s : ℕ) (costs : List ℤ) (plans : List ℕ) : Type 0 where

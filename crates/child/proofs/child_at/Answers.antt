@@ -1,7 +1,6 @@
 -- At a state that is not reached, or where no action is left, there is no child.
 -- Assumes nothing.
 use mathlib.Core.Path.{◌≡◌, ap, ◌∙◌}
-use mathlib.Core.Logic.{inr}
 use mathlib.Core.List.{List, []}
 use Prim.Native.Nat.{ℕ}
 use lib.IntN.{ℤ, pos, ◌+ℤ◌, ◌-ℤ◌, ◌*ℤ◌}
@@ -14,7 +13,7 @@ use Rattle.table.specs.Table.{row_of}
 use Rattle.stored.specs.Entry.{Entry}
 use Rattle.stored.specs.Children.{child_entry}
 use Rattle.child.specs.Children.{ChildAt, entry_of, joined, admitted}
-use Rattle.child.proofs.Children.{in_plan, Facts, facts, made_is, if_some, none_is}
+use Rattle.child.proofs.Children.{in_plan, Facts, facts, made_is}
 use Rattle.child.proofs.State.{unreached, small, none, child_at_lem, one}
 use Rattle.child.proofs.child_at.Goals as goal
 use Rattle.child.proofs.child_at.Goals.{Else-c-eq255}
@@ -25,10 +24,11 @@ bounds-plan-p c =
 
 pub returns-then-f-eq255 : goal.returns-then-f-eq255
 returns-then-f-eq255 c =
-    let ws = c.args.b.now in
     let en = entry_of c.args.e c.args.plan.now in
-    none_is ws en c.args.p _ c.no_child.ensures
-    (λ k es. unreached ws c.requires.0.ok c.args.q.now c.requires.1 en c.requires.4.right c.args.p c.requires.5 c.requires.6 k es c.if-f-eq255.true)
+    record {
+      joins = λ k es. unreached c.args.b.now c.requires.0.ok c.args.q.now c.requires.1 en c.requires.4.right c.args.p c.requires.5 c.requires.6 k es c.if-f-eq255.true;
+      goes_on = tt;
+    }
 
 pub mask_at-mask-requires : goal.mask_at-mask-requires
 mask_at-mask-requires c =
@@ -40,11 +40,12 @@ next_action-c-requires c = (c.requires.0, c.requires.2, c.requires.6)
 
 pub returns-then-c-eq255 : goal.returns-then-c-eq255
 returns-then-c-eq255 c =
-    let ws = c.args.b.now in
     let en = entry_of c.args.e c.args.plan.now in
-    none_is ws en c.args.p _ c.no_child-then-c-eq255.ensures
-    (λ k es. none ws c.requires.0.ok c.args.q.now c.requires.1 en c.requires.4.right c.args.p c.requires.5 c.requires.6 k es
-    c.if-f-eq255.false c.args.best.now c.requires.2 c.requires.3 _ _ c.mask_at-mask.ensures c.next_action-c.ensures c.if-c-eq255.true)
+    record {
+      joins = λ k es. none c.args.b.now c.requires.0.ok c.args.q.now c.requires.1 en c.requires.4.right c.args.p c.requires.5 c.requires.6 k es
+          c.if-f-eq255.false c.args.best.now c.requires.2 c.requires.3 _ _ c.mask_at-mask.ensures c.next_action-c.ensures c.if-c-eq255.true;
+      goes_on = tt;
+    }
 
 -- where an action is left
 module _ (c : goal.Else-c-eq255) where
@@ -87,11 +88,10 @@ child_cost-cost-requires c =
 pub returns : goal.returns
 returns c =
     let d = (goal.at.returns c).Else-c-eq255 in record {
-      joins = λ k es. if_some k (ws d) c.args.plan.now c.args.p _ es c.if-c-eq255.false
-          ∙ ap (λ (e : Entry). joined k e es)
+      joins = λ k es. ap (λ (e : Entry). joined k e es)
           (made_is (ws d) c.args.q.now (en d) c.args.w.now c.args.p c.next_action-c.result
           (get_or c.args.plan.now c.args.p 0) (known d)
           (money d _ c.child_cost-cost.ensures) (child d).mask_is)
           ∙ joins d k es;
-      goes_on = inr (known d).c_feasible;
+      goes_on = (known d).c_feasible;
     }

@@ -16,9 +16,6 @@ use Rattle.child.proofs.next_action.Goals.{Start}
 below_64 : (s : goal.Start) → s.args.p < 64
 below_64 s = omega (arith, s.requires.2, (accepted s.args.b.now s.requires.0.ok).sizes.s_high)
 
-pub count-n-requires : goal.count-n-requires
-count-n-requires c = let s = c in (s.requires.0, s.requires.2)
-
 pub overflow_add-p : goal.overflow_add-p
 overflow_add-p c = omega (arith, below_64 (goal.at.overflow_add-p c).Start)
 
@@ -32,27 +29,19 @@ best_action-requires c =
 
 pub returns-then-split-p : goal.returns-then-split-p
 returns-then-split-p c =
-    let u = c in
-    let n = u in
-    let s = n in
-    let f = row_of s.args.q.now s.args.p in
-    let off = get_or s.args.best.now (128 + s.args.p) 0 in
-    rw (eq-eqb s.args.split s.args.p n.if-split-p.true)
+    let f = row_of c.args.q.now c.args.p in
+    let off = get_or c.args.best.now (128 + c.args.p) 0 in
+    rw (eq-eqb c.args.split c.args.p c.if-split-p.true)
     (c.best_action.ensures
-    ∙ ap (λ m. best_of f (free m (up_from 0 n.count-n.result))) u.union8-all.ensures
-    ∙ ap (best_of f) (free-union s.args.mask off (up_from 0 n.count-n.result))
-    ∙ ap (λ k. best_of f (free s.args.mask (free off (up_from 0 k)))) n.count-n.ensures)
+    ∙ ap (λ m. best_of f (free m (up_from 0 c.count-n.result))) c.union-all.ensures
+    ∙ ap (best_of f) (free-union c.args.mask off (up_from 0 c.count-n.result))
+    ∙ ap (λ k. best_of f (free c.args.mask (free off (up_from 0 k)))) c.count-n.ensures)
 
-pub overflow_add-p-2 : goal.overflow_add-p-2
-overflow_add-p-2 c = omega (arith, below_64 (goal.at.overflow_add-p-2 c).Start)
+pub overflow_add-result : goal.overflow_add-result
+overflow_add-result c = omega (arith, below_64 (goal.at.overflow_add-result c).Start)
 
 pub bounds-best-p-2 : goal.bounds-best-p-2
 bounds-best-p-2 c = omega (arith, below_64 (goal.at.bounds-best-p-2 c).Start)
 
-pub wide8-requires : goal.wide8-requires
-wide8-requires c = tt
-
 pub returns : goal.returns
-returns c =
-    let s = c in
-    rw (ne_eqb s.args.split s.args.p c.if-split-p.false) c.wide8.ensures
+returns c = rw (ne_eqb c.args.split c.args.p c.if-split-p.false)

@@ -1,7 +1,7 @@
 -- The first best actions make the first policy, and it waits alone.
 -- Assumes nothing.
-use mathlib.Core.Path.{◌≡◌, sym, ◌∙◌, subst}
-use mathlib.Core.List.{List}
+use mathlib.Core.Path.{◌≡◌, refl, sym, ◌∙◌, subst}
+use mathlib.Core.List.{List, []}
 use Prim.Native.Nat.{ℕ, ◌≤◌}
 use native.Mathlib.Omega.{arith}
 use lib.ListN.{get_or}
@@ -18,12 +18,10 @@ use Rattle.build.proofs.Prefix.{walked_none}
 use Rattle.build.specs.Best.{best_at, BestOf}
 use Rattle.build.proofs.Best.{best_option}
 use Rattle.engine.specs.Engine.{RowOf, first_candidate}
+use Rattle.engine.proofs.Joins.{few}
 use Rattle.engine.proofs.Parts.{row-take}
 use Rattle.engine.proofs.Start.{first_walk, best_long, first_alone}
 use Rattle.engine.proofs.first_pool.Goals as goal
-
-few : (ws : Words) (z : Sizes) → Checked ws z → z.s ≤ 64
-few ws z h = omega (arith, h.sizes.s_is, (accepted ws h.ok).sizes.s_high)
 
 best-first : {ws : Words} {z : Sizes} {best : List ℕ} {x : ℕ} → Checked ws z → BestOf ws best → x ≡ get_or best 0 0 → x ≡ best_at ws 0
 best-first {ws} h f e = e ∙ f.best_is 0 (shape ws h.ok).some_state
@@ -37,14 +35,14 @@ row_of-requires c =
       h.2,
       (λ i l. absurd (omega arith)),
       (shape ws h.0.ok).some_state,
-      subst (Feasible ws 0) (sym (best-first h.0 h.2 c.wide8-first.ensures)) (best_option ws 0 h.3),
-      walked_none ws c.zeros-none.result h.3 1 first-set,
-      c.zeros-row.ensures,
+      subst (Feasible ws 0) (sym (best-first h.0 h.2 refl)) (best_option ws 0 h.3),
+      walked_none ws [] h.3 1 first-set,
+      refl,
     )
 
 pub single-requires : goal.single-requires
 single-requires c =
-    (c.requires.5, c.requires.6, few _ _ c.requires.0, c.row_of.ensures.long)
+    (c.requires.5, c.requires.6, few c.requires.0, c.row_of.ensures.long)
 
 pub returns : goal.returns
 returns c =
@@ -53,7 +51,7 @@ returns c =
     let i = c.single.ensures in
     let row = c.row_of.new.row in
     let best : RowOf (best_policy ws) row =
-    subst (λ (bs : List ℕ). RowOf bs row) (first_walk ws h.0.ok c.zeros-none.result _ (best-first h.0 h.2 c.wide8-first.ensures)) c.row_of.ensures
+    subst (λ (bs : List ℕ). RowOf bs row) (first_walk ws h.0.ok [] _ (best-first h.0 h.2 refl)) c.row_of.ensures
     in (
       i.0,
       i.1,

@@ -1,6 +1,6 @@
 -- The search from the first candidate, with the table and the first best actions of the book; nothing where it has no policy.
 -- Assumes nothing.
-use mathlib.Core.Path.{◌≡◌, sym, ap, ◌∙◌}
+use mathlib.Core.Path.{◌≡◌, refl, sym, ap, ◌∙◌}
 use mathlib.Core.Bool.{Bool, not}
 use mathlib.Core.List.{List}
 use Prim.Native.Nat.{ℕ}
@@ -19,26 +19,26 @@ use Rattle.engine.proofs.list_by.Goals as goal
 tested : {ws : Words} {off : List ℕ} {dead : ℕ} {t : Bool} → book_number ws ≡ 0 → BarredFrom ws 0 off dead → t ≡ has dead 0 → has_policy ws ≡ not t
 tested {ws} ok m e = has_is ws ok ∙ sym (ap not (e ∙ m.dead_is 0 (omega arith) (shape ws ok).some_state))
 
-pub returns-then-has64 : goal.returns-then-has64
-returns-then-has64 c =
-    none_ranked c.args.b.now _ (tested c.requires.0.checked.ok c.find_barred-m.ensures c.has64.ensures ∙ ap not c.if-has64.true)
+pub returns-then-has : goal.returns-then-has
+returns-then-has c =
+    none_ranked c.args.b.now _ (tested c.requires.0.checked.ok c.find_barred-m.ensures c.has.ensures ∙ ap not c.if-has.true)
 
 pub fill_sets-requires : goal.fill_sets-requires
-fill_sets-requires c = (c.requires.0, all_barred _ _ _ c.find_barred-m.ensures, c.no_sets-nx.ensures)
+fill_sets-requires c = (c.requires.0, all_barred _ _ _ c.find_barred-m.ensures, refl)
 
 pub fill_table-requires : goal.fill_table-requires
-fill_table-requires c = (c.requires.0, all_barred _ _ _ c.find_barred-m.ensures, c.zero_rows-q.ensures, c.zeros-v.ensures)
+fill_table-requires c = (c.requires.0, all_barred _ _ _ c.find_barred-m.ensures, refl, refl)
 
 pub best_actions-requires : goal.best_actions-requires
 best_actions-requires c =
-    (c.requires.0.checked, table_rows _ _ _ c.fill_table.ensures, all_barred _ _ _ c.find_barred-m.ensures, c.no_best-best.ensures)
+    (c.requires.0.checked, table_rows _ _ _ c.fill_table.ensures, all_barred _ _ _ c.find_barred-m.ensures, refl)
 
 pub search-requires : goal.search-requires
 search-requires c =
     let ws = c.args.b.now in
     let h = c.requires in
     let ok = h.0.checked.ok in
-    let yes = tested ok c.find_barred-m.ensures c.has64.ensures ∙ ap not c.if-has64.false in (
+    let yes = tested ok c.find_barred-m.ensures c.has.ensures ∙ ap not c.if-has.false in (
       record {
         indexed = h.0;
         next = c.fill_sets.ensures;
@@ -58,4 +58,4 @@ search-requires c =
 pub returns : goal.returns
 returns c =
     let ok = c.requires.0.checked.ok in
-    ranked c.args.b.now ok (tested ok c.find_barred-m.ensures c.has64.ensures ∙ ap not c.if-has64.false) _ c.search.result c.search.ensures
+    ranked c.args.b.now ok (tested ok c.find_barred-m.ensures c.has.ensures ∙ ap not c.if-has.false) _ c.search.result c.search.ensures
