@@ -28,10 +28,10 @@
 // follow.
 #![tactic(auto)]
 
-ghost use Rattle.std.specs.Prelude.{◌<◌, ◌≤◌};
+ghost use Rattle.std.specs.Prelude.{◌*◌, ◌<◌, ◌≤◌, length};
 
 use refusal::Refusal;
-use reservation::{Answer, Desk};
+use reservation::Desk;
 
 #[derive(Clone, Copy)]
 struct Head {
@@ -42,17 +42,11 @@ struct Head {
     y: usize,
 }
 
-fn lesser(a: usize, b: usize) -> usize
-    ensures { (result ≤ a) × (result ≤ b) }
-{
-    if a < b { a } else { b }
-}
-
 // ---- printing
 
-// A number that no call makes too large for its sign.
+// No call gives a number that is too large for its sign.
 fn figure(x: usize) -> i64 {
-    lesser(x, 9223372036854775807) as i64
+    i64::try_from(x).unwrap_or(i64::MAX)
 }
 
 fn print_signed(x: i64) {
@@ -61,7 +55,7 @@ fn print_signed(x: i64) {
     } else {
         io::write_all(1, b" ");
     }
-    io::print_decimal(1, text::magnitude(x));
+    io::print_decimal(1, x.unsigned_abs());
 }
 
 fn print_row(row: &[i64]) {
@@ -76,15 +70,21 @@ fn print_answer(kind: u8, answer: [i64; 3]) {
     print_row(&answer);
 }
 
+// The number of a call, then its figures.
+fn print_call(kind: u8, given: Result<[i64; 2], Refusal>) {
+    let [x, y] = given.unwrap_or([0, 0]);
+    print_answer(kind, [i64::from(refusal::number(&given)), x, y]);
+}
+
 // Byte i of a slice, printed if it is among the first 32, and taken into a digest: a remainder by a prime below 2^55, so that no product wraps.
 fn print_byte(d: u64, i: usize, x: u8) -> u64
     requires { d < 36028797018963913 }
     ensures { result < 36028797018963913 }
 {
     if i < 32 {
-        print_signed(x as i64);
+        print_signed(i64::from(x));
     }
-    (d * 257 + x as u64 + 1) % 36028797018963913
+    (d * 257 + u64::from(x) + 1) % 36028797018963913
 }
 
 fn print_each(bytes: &[u8]) -> u64
@@ -110,270 +110,174 @@ fn print_bytes(bytes: &[u8]) {
 
 // ---- the calls
 
-// The number of the eight bytes from a place on.
+// The number of the eight bytes from a place on, 0 where they are missing.
 fn number_at(bytes: &[u8], at: usize) -> usize
     requires { at < 4096 }
 {
     if bytes.len() < at + 8 {
         return 0;
     }
-    (bytes_io::read4(bytes, at) + 4294967296 * bytes_io::read4(bytes, at + 4)) as usize
+    usize::from_le_bytes(bytes[at..at + 8].try_into().unwrap())
 }
 
-// The number of a call.
-fn number<T>(r: &Result<T, Refusal>) -> i64 {
-    i64::from(refusal::number(r))
-}
-
-// The number and the figure of a call that gives a length or a count.
-fn figures(r: Result<usize, Refusal>) -> [i64; 3] {
-    [number(&r), figure(r.unwrap_or(0)), 0]
-}
-
-// The number and the figures of a call that writes nothing.
-fn ask(h: Head, b: &[i32], part: &[u8]) -> [i64; 3] {
-    if h.kind == b'c' {
-        return [number(&check_book::check(b)), 0, 0];
+// The figures of a call that writes nothing.
+fn ask(h: Head, b: &[i32], part: &[u8]) -> Result<[i64; 2], Refusal> {
+    match h.kind {
+        b'c' => check_book::check(b).map(|_| [0, 0]),
+        b'l' => least::least(b).map(|cost| [cost, 0]),
+        b'v' => value::value(b, part).map(|cost| [cost, 0]),
+        b'a' => accept::accept(part).map(|a| [figure(a.s), figure(a.k)]),
+        b'q' => find::find(b, h.k, part).map(|a| [i64::from(a.number()), a.value()]),
+        b'u' => {
+            let marks = &part[part.len().min(8)..];
+            limit::limit(b, h.k, marks, number_at(part, 0)).map(|a| [
+                i64::from(a.number()),
+                figure(a.rank()),
+            ])
+        }
+        _ => Ok([figure(power::power(h.k, h.z as usize) as usize), 0]),
     }
-    if h.kind == b'l' {
-        let v = least::least(b);
-        return [number(&v), v.unwrap_or(0), 0];
-    }
-    if h.kind == b'v' {
-        let v = value::value(b, part);
-        return [number(&v), v.unwrap_or(0), 0];
-    }
-    if h.kind == b'a' {
-        return match accept::accept(part) {
-            Ok(a) => [0, figure(a.s), figure(a.k)],
-            Err(q) => [i64::from(u32::from(q)), 0, 0],
-        };
-    }
-    if h.kind == b'q' {
-        return match find::find(b, h.k, part) {
-            Ok(a) => [0, i64::from(a.number()), a.value()],
-            Err(q) => [i64::from(u32::from(q)), 0, 0],
-        };
-    }
-    if h.kind == b'u' {
-        let from = lesser(8, part.len());
-        return match limit::limit(b, h.k, &part[from..], number_at(part, 0)) {
-            Ok(a) => [0, i64::from(a.number()), figure(a.rank())],
-            Err(q) => [i64::from(u32::from(q)), 0, 0],
-        };
-    }
-    [0, figure(power::power(h.k, h.z as usize) as usize), 0]
 }
 
 // Reads the words of the part, as many as there is room for; gives how many.
-fn words_of(part: &[u8], words: &mut [i32]) -> usize {
-    let n = lesser(part.len() / 4, words.len());
+fn words_of(part: &[u8], words: &mut [i32]) -> usize
+    ensures { (4 * result ≤ length part.now) × (result ≤ length words.new) }
+{
+    let n = words.len().min(part.len() / 4);
     bytes_io::read_words(part, 0, n, words);
     n
 }
 
-fn put_back(words: &[i32], out: &mut [u8]) {
-    let n = lesser(words.len(), out.len() / 4);
-    bytes_io::write_words(out, 0, &words[0..n]);
-}
-
-fn convert_words(b: &[i32], words: &mut [i32], out: &mut [u8]) -> [i64; 3] {
-    let c = convert::convert(b, words);
-    put_back(words, out);
-    figures(c)
-}
-
 // Whole words are lent and put back, 5,400 at most; bytes after them stay.
-fn convert_part(b: &[i32], out: &mut [u8]) -> [i64; 3] {
+fn convert_part(b: &[i32], out: &mut [u8]) -> Result<usize, Refusal> {
     let mut words = [0i32; 5400];
     let n = words_of(out, &mut words);
-    let end = lesser(n, words.len());
-    convert_words(b, &mut words[0..end], out)
+    let lent = &mut words[..n];
+    let length = convert::convert(b, lent);
+    bytes_io::write_words(out, 0, lent);
+    length
 }
 
-fn lend(h: Head, b: &[i32], costs: &mut [i64], out: &mut [u8]) -> [i64; 3] {
-    if h.kind == b'r' {
-        return figures(rank::rank(b, h.k, costs, out));
+// The length or the count of a call that writes to the lent slices.
+fn lend(h: Head, b: &[i32], costs: &mut [i64], out: &mut [u8]) -> Result<usize, Refusal> {
+    match h.kind {
+        b'r' => rank::rank(b, h.k, costs, out),
+        b'g' => rank_small::rank_small(b, h.k, costs, out),
+        b'x' => convert_part(b, out),
+        _ => write::write(b, h.k, out),
     }
-    if h.kind == b'g' {
-        return figures(rank_small::rank_small(b, h.k, costs, out));
-    }
-    if h.kind == b'x' {
-        return convert_part(b, out);
-    }
-    figures(write::write(b, h.k, out))
 }
 
-fn lend_all(h: Head, b: &[i32], costs: &mut [i64], out: &mut [u8]) {
-    print_answer(h.kind, lend(h, b, costs, out));
+fn run_lent(h: Head, b: &[i32], out: &mut [u8]) {
+    let mut places = [77i64; 80];
+    let n = places.len().min(h.z as usize);
+    let costs = &mut places[..n];
+    let given = lend(h, b, costs, out);
+    print_call(h.kind, given.map(|n| [figure(n), 0]));
     print_row(costs);
     print_bytes(out);
 }
 
-fn lend_part(h: Head, b: &[i32], costs: &mut [i64], out: &mut [u8]) {
-    let n = lesser(h.z as usize, costs.len());
-    lend_all(h, b, &mut costs[0..n], out);
-}
-
-fn run_lent(h: Head, b: &[i32], out: &mut [u8]) {
-    let mut costs = [77i64; 80];
-    lend_part(h, b, &mut costs, out);
-}
-
 // The page as the printing program would print it.
-fn page_into(input: &[u8], out: &mut [u8]) {
-    let m = page::print_page(input, out);
-    let end = lesser(m, out.len());
+fn print_page(input: &[u8]) {
+    let mut out = [77u8; 90112];
+    let end = page::print_page(input, &mut out).min(out.len());
     io::write_all(1, b"\n");
-    io::write_all(1, &out[0..end]);
+    io::write_all(1, &out[..end]);
 }
 
 fn print_part(h: Head, part: &[u8]) {
     io::write_all(1, &[h.kind]);
-    if h.kind == b's' {
-        print_bytes(accept::show(part, h.k));
-    } else if h.kind == b'b' {
-        print_bytes(browse::browse(part, h.k));
-    } else {
-        let mut out = [77u8; 90112];
-        page_into(part, &mut out);
+    match h.kind {
+        b's' => print_bytes(accept::show(part, h.k)),
+        b'b' => print_bytes(browse::browse(part, h.k)),
+        _ => print_page(part),
     }
 }
 
 // ---- the desk
 
-fn at_desk(kind: u8) -> bool {
-    kind == b'o' || kind == b'h' || kind == b'y' || kind == b'n' || kind == b'f'
-}
-
 fn ranks_at(part: &[u8], from: usize) -> [u8; 16]
     requires { from < 4096 }
 {
     let mut ranks = [0u8; 16];
-    if part.len() < from + 16 {
-        return ranks;
+    if from + 16 <= part.len() {
+        ranks.copy_from_slice(&part[from..from + 16]);
     }
-    ranks.copy_from_slice(&part[from..from + 16]);
     ranks
 }
 
-fn turn(h: Head, desk: Desk, part: &[u8]) -> Answer {
-    if h.kind == b'o' {
-        return desk::opened(desk, part);
+fn filled(part: &[u8]) -> Desk {
+    Desk {
+        k: part.first().copied().unwrap_or(0),
+        held: ranks_at(part, 1),
+        committed: ranks_at(part, 17),
     }
-    let rider = number_at(part, 0);
-    if h.kind == b'h' {
-        return desk.asking(rider, number_at(part, 8));
-    }
-    if h.kind == b'y' {
-        return desk.committing(rider);
-    }
-    desk.cancelling(rider)
 }
 
 // Gives the desk afterwards.
 fn serve(h: Head, desk: Desk, part: &[u8]) -> Desk {
-    if h.kind == b'f' && part.len() > 0 {
-        return Desk {
-            k: part[0],
-            held: ranks_at(part, 1),
-            committed: ranks_at(part, 17),
-        };
-    }
-    let a = turn(h, desk, part);
-    let next = a.desk;
     let rider = number_at(part, 0);
+    let a = match h.kind {
+        b'o' => desk::opened(desk, part),
+        b'h' => desk.asking(rider, number_at(part, 8)),
+        b'y' => desk.committing(rider),
+        _ => desk.cancelling(rider),
+    };
+    let next = a.desk;
     print_answer(
         h.kind,
         [
-            a.no as i64,
+            i64::from(a.no),
             figure(next.held_by(rider)),
             figure(next.committed_by(rider)),
         ],
     );
-    print_row(&[next.k as i64]);
+    print_row(&[i64::from(next.k)]);
     print_bytes(&next.held);
     print_bytes(&next.committed);
     next
 }
 
-// Any other command leaves the desk.
-fn serve_part(h: Head, desk: Desk, bytes: &[u8]) -> Desk {
-    if !at_desk(h.kind) {
-        return desk;
-    }
-    let end = lesser(h.y, bytes.len());
-    let from = lesser(h.x, end);
-    serve(h, desk, &bytes[from..end])
-}
-
 // ---- commands
-
-fn read(h: Head, part: &mut [u8]) {
-    io::read_full(0, part);
-    if h.kind == b't' {
-        io::write_all(1, part);
-    }
-}
-
-fn call(h: Head, b: &[i32], part: &mut [u8]) {
-    if h.kind == b'i' || h.kind == b't' {
-        read(h, part);
-    } else if h.kind == b'r' || h.kind == b'g' || h.kind == b'w' || h.kind == b'x' {
-        run_lent(h, b, part);
-    } else if h.kind == b's' || h.kind == b'b' || h.kind == b'p' {
-        print_part(h, part);
-    } else if !at_desk(h.kind) {
-        print_answer(h.kind, ask(h, b, part));
-    }
-}
-
-// Of the words n are in use.
-fn call_part(h: Head, n: usize, words: &[i32], part: &mut [u8]) {
-    let end = lesser(n, words.len());
-    call(h, &words[0..end], part);
-}
-
-// Gives how many words are then in use.
-fn act(h: Head, n: usize, words: &mut [i32], part: &mut [u8]) -> usize {
-    if h.kind == b'm' {
-        return words_of(part, words);
-    }
-    call_part(h, n, words, part);
-    n
-}
-
-fn obey(h: Head, n: usize, words: &mut [i32], bytes: &mut [u8]) -> usize {
-    let end = lesser(h.y, bytes.len());
-    let from = lesser(h.x, end);
-    act(h, n, words, &mut bytes[from..end])
-}
 
 // At the end of the input the bytes stay as they are here: the case ends, with z = 1.
 fn next_head(bytes: &[u8]) -> Head {
     let mut b = [b'e', 1, 0, 0, 0, 0];
     io::read_full(0, &mut b);
-    let ends = bytes_io::read4(&b, 2);
     Head {
         kind: b[0],
         z: b[1],
         k: number_at(bytes, 0),
-        x: (ends % 65536) as usize,
-        y: (ends / 65536) as usize,
+        x: usize::from(u16::from_le_bytes([b[2], b[3]])),
+        y: usize::from(u16::from_le_bytes([b[4], b[5]])),
     }
 }
 
-// Does the input go on after the case? Nothing says that it ends, so the commands are counted down from a number that no input uses up.
+// Does the input go on after the case? Nothing says that it ends, so the commands are counted, up to a number that no input reaches. n words are in use.
 fn run_commands(words: &mut [i32], bytes: &mut [u8]) -> bool {
     let mut n: usize = 0;
     let mut desk = Desk::fresh();
     for _ in 0..u64::MAX {
         let h = next_head(bytes);
-        if h.kind == b'e' {
-            return h.z == 0;
+        let end = h.y.min(bytes.len());
+        let part = &mut bytes[h.x.min(end)..end];
+        match h.kind {
+            b'e' => return h.z == 0,
+            b'i' => {
+                io::read_full(0, part);
+            }
+            b't' => {
+                io::read_full(0, part);
+                io::write_all(1, part);
+            }
+            b'm' => n = words_of(part, words),
+            b'r' | b'g' | b'w' | b'x' => run_lent(h, &words[..n], part),
+            b's' | b'b' | b'p' => print_part(h, part),
+            b'f' => desk = filled(part),
+            b'o' | b'h' | b'y' | b'n' => desk = serve(h, desk, part),
+            _ => print_call(h.kind, ask(h, &words[..n], part)),
         }
-        n = obey(h, n, words, bytes);
-        desk = serve_part(h, desk, bytes);
     }
     false
 }

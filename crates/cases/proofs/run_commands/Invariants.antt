@@ -1,8 +1,8 @@
--- No command changes a length.
+-- The words in use are there.
 -- Assumes nothing.
-use mathlib.Core.Path.{◌≡◌}
+use Prim.Native.Nat.{◌≤◌}
 use lib.ListN.{length}
 use Rattle.cases.proofs.run_commands.Given as goal
 
 abbrev pub invariant-loop : goal.invariant-loop
-invariant-loop l = (length l.words ≡ length l.initial.words) × (length l.bytes ≡ length l.initial.bytes)
+invariant-loop l = l.n ≤ length l.words
