@@ -15,7 +15,13 @@ use table_book::Sizes;
 
 // The book of a table that passes 25 and 26, where a book of its length has room in both slices. It is made and checked in the first, since a refusal writes
 // nothing to the second.
-fn put_checked(t: &[i32], z: Table, s: Sizes, book: &mut [i32], out: &mut [i32]) -> Result<usize, Refusal>
+fn put_checked(
+    t: &[i32],
+    z: Table,
+    s: Sizes,
+    book: &mut [i32],
+    out: &mut [i32],
+) -> Result<usize, Refusal>
     requires { (first_no table_questions t.now ≡ 0) × TableRead t.now z × Made t.now s × (s.length ≤ length book.old) × (s.length ≤ length out.old) }
     ensures number { number_in result ≡ convert_number t.now (length out.old) }
     ensures long { IfOk result (λ n. n ≡ convert_length t.now (length out.old)) }

@@ -6,7 +6,6 @@ use lib.ListN.{length}
 use Rattle.std.proofs.lemmas.Result.{err_from_is_err_and}
 use Rattle.model.specs.Questions.{first_no}
 use Rattle.refusal.specs.Refusal.{number_of, some_number}
-use Rattle.refusal.specs.declared.Refusal.{Refusal}
 use Rattle.refusal.specs.declared.Refusal.TheVariants.{LineCount, StageSizes, BookRoom}
 use Rattle.reward_table.specs.Table.{table_questions}
 use Rattle.reward_table.specs.Convert.{table_book, convert_number}
