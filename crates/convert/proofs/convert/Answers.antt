@@ -46,7 +46,7 @@ long c = measured (passed c) c.measure-s.ensures
 no_room : (c : goal.Then-out-s) → 27 ≡ convert_number c.args.t.now (length c.args.out.now)
 no_room c =
     let d = (goal.at.returns-then-out-s-clause-number c).After-measure-s in
-    of_room _ _ (sym c.in_ok-table_number.ensures) (omega (arith, c.if-out-s.true, long d))
+    of_room _ _ (sym c.in_ok-table_number.ensures) (omega (arith, long d))
 
 pub returns-then-out-s-clause-number : goal.returns-then-out-s-clause-number
 returns-then-out-s-clause-number c = no_room c
@@ -58,8 +58,8 @@ many_lines : (c : goal.Then-s-gt2048) → 4 ≡ convert_number c.args.t.now (len
 many_lines c =
     let d = (goal.at.returns-then-s-gt2048-clause-number c).After-measure-s in
     let p = passed d in
-    of_book _ _ (sym c.in_ok-table_number.ensures) (omega (arith, c.if-out-s.false, long d))
-    (too_many_lines _ p.given p.lines (omega (arith, c.if-s-gt2048.true, c.measure-s.ensures.lines_is)))
+    of_book _ _ (sym c.in_ok-table_number.ensures) (omega (arith, long d))
+    (too_many_lines _ p.given p.lines (omega (arith, c.measure-s.ensures.lines_is)))
 
 pub returns-then-s-gt2048-clause-number : goal.returns-then-s-gt2048-clause-number
 returns-then-s-gt2048-clause-number c = many_lines c
@@ -72,8 +72,8 @@ many_states c =
     let d = (goal.at.returns-then-s-gt64-clause-number c).After-measure-s in
     let p = passed d in
     let q = c.measure-s.ensures in
-    of_book _ _ (sym c.in_ok-table_number.ensures) (omega (arith, c.if-out-s.false, long d))
-    (too_many_states _ p.given p.lines (omega (arith, c.if-s-gt2048.false, q.lines_is)) (omega (arith, c.if-s-gt64.true, q.states_is)))
+    of_book _ _ (sym c.in_ok-table_number.ensures) (omega (arith, long d))
+    (too_many_states _ p.given p.lines (omega (arith, q.lines_is)) (omega (arith, q.states_is)))
 
 pub returns-then-s-gt64-clause-number : goal.returns-then-s-gt64-clause-number
 returns-then-s-gt64-clause-number c = many_states c
