@@ -7,9 +7,8 @@ use mathlib.Core.List.{List, [], ◌∷◌, ◌++◌, append_assoc, head-eq_of_c
 use Prim.Native.Nat.{ℕ, zero, suc, ◌+◌, ◌-◌, ◌≤◌, ◌<◌}
 use native.Mathlib.Numerals.{add-one}
 use native.Mathlib.Omega.{arith}
-use native.Mathlib.Nat.{zero-add}
-use lib.ListN.{length, get_or, set as put, take, drop, length-append, length-drop}
-use lib.Seq.{drop-cons, take-suc, take_at, length-take-le, paste-suc}
+use lib.ListN.{length, take, drop, length-append, length-drop}
+use lib.Seq.{drop-cons, take-suc, take_at, length-take-le}
 use Rattle.model.specs.Lists.{is_in}
 use Rattle.model.specs.Model.{Words, Action, state_count, action}
 use Rattle.model.specs.Questions.{book_number}
@@ -124,9 +123,6 @@ module _ (ws : Words) (bs : Policy) where
 pub usable_long : (ws : Words) (bs : Policy) (r : ℕ) → Usable ws bs r → r ≤ length bs
 usable_long ws bs zero u = omega arith
 usable_long ws bs (suc r) u = (u r (omega arith)).0
-
-pub copy_more : (d s : List ℕ) (n : ℕ) → n < length d → n < length s → put (take n s ++ drop n d) n (get_or s n 0) ≡ take (n + 1) s ++ drop (n + 1) d
-copy_more d s n h k = rw add-one (simp zero-add at (paste-suc d 0 s n 0 (rw zero-add h) k))
 
 pub copied : {o : List ℕ} (bs d : List ℕ) (r n : ℕ) → r ≤ length bs → length d ≡ n → r ≤ n → o ≡ take r bs ++ drop r d
     → (length o ≡ n) × (take r o ≡ take r bs)

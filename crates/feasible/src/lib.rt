@@ -2,7 +2,7 @@
 // over the actions, from the last state to the first.
 #![tactic(auto)]
 
-ghost use Rattle.std.specs.Prelude.{◌≡◌, ◌+◌, ◌<◌, ◌≤◌, length};
+ghost use Rattle.std.specs.Prelude.{◌≡◌, ◌+◌, ◌<◌, ◌≤◌};
 ghost use Rattle.model.specs.Lists.{is_empty, up_from};
 ghost use Rattle.model.specs.Model.{state_count, action};
 ghost use Rattle.model.specs.Questions.{book_number};

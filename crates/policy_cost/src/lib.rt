@@ -2,7 +2,7 @@
 // policies of one book; they are known to be policies.
 #![tactic(auto)]
 
-ghost use Rattle.std.specs.Prelude.{◌≡◌, ◌<◌, T, length};
+ghost use Rattle.std.specs.Prelude.{◌≡◌, ◌<◌, T};
 ghost use Rattle.model.specs.Model.{scale, togo, state_count, action};
 ghost use Rattle.model.specs.Policy.{is_policy};
 ghost use Rattle.model.specs.Path.{policy_cost};

@@ -79,7 +79,7 @@ pub fn zeros() -> [i64; 64]
 
 // Fills q and v with the table of a checked book, where `off` has the actions that no policy can take: at 8 × p + c of q the cost of action c of state p with
 // best actions ever after, at p of v the least cost-to-go of state p. No cost is multiplied or written for those actions, and v gets no entry for a state that
-// has no other: no sum reads one.
+// has no other: no sum reads one. Rows of eight in one array: row_of, on which the definition TableOf rests, has it so.
 pub fn fill_table(
     b: &[i32],
     z: Sizes,

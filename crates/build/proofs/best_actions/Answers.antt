@@ -19,9 +19,9 @@ use Rattle.build.proofs.best_actions.Goals as goal
 use Rattle.build.proofs.best_actions.Goals.{After-best_action-c, After-count-n, then-k-gt1, else-k-gt1}
 
 pub loop-p-init : goal.loop-p-init
-loop-p-init s =
-    let ws = s.args.b.now in
-    ((accepted ws s.requires.0.ok).sizes.s_high, omega arith, found_none ws s.args.k s.args.best.now s.requires.3)
+loop-p-init c =
+    let ws = c.args.b.now in
+    ((accepted ws c.requires.0.ok).sizes.s_high, found_none ws c.args.k c.args.best.now c.requires.3)
 
 -- what is known once the first best action of state p is found
 module _ (c : goal.After-best_action-c) where
@@ -96,9 +96,8 @@ loop-p-preserved c =
     let w = ws a in
     let xs = c.loop-p.best in
     let one = c.best_action-c.result in
-    let old = c.loop-p.invariant.2 in (
+    let old = c.loop-p.invariant.1 in (
       c.loop-p.invariant.0,
-      omega (arith, state a),
       elim c.if-k-gt1.branch [
         | then-k-gt1 t ↦
             subst (Found w c.args.k (p + 1)) (sym t.best-is)
@@ -108,9 +107,3 @@ loop-p-preserved c =
             (found_one w c.args.k p one m xs (omega (arith, state a, c.loop-p.invariant.0)) old (first a) (leaves a) (λ j. omega arith))
       ],
     )
-
-pub returns : goal.returns
-returns c =
-    let ws = c.args.b.now in
-    let e : c.loop-p.p ≡ state_count ws = omega arith in
-    subst (λ n. Found ws c.args.k n c.loop-p.best) e c.loop-p.invariant.2

@@ -1,92 +1,78 @@
 -- Assumes nothing.
-use mathlib.Core.Path.{◌≡◌, sym, ◌∙◌, subst}
-use mathlib.Core.Bool.{true}
+use mathlib.Core.Path.{◌≡◌, sym, ap, ◌∙◌}
+use mathlib.Core.Logic.{inl, inr}
 use mathlib.Core.List.{List, ◌++◌}
-use Prim.Native.Nat.{ℕ, ◌≤◌, ◌<◌}
+use Prim.Native.Nat.{ℕ, ◌<◌}
 use native.Mathlib.Omega.{arith}
-use lib.ListN.{length, take, drop}
-use Rattle.model.specs.Model.{state_count, action}
+use lib.ListN.{drop}
+use Rattle.model.specs.Model.{state_count}
 use Rattle.accepted.specs.Facts.{accepted}
-use Rattle.laws.specs.Members.{true-T, is_in_in}
-use Rattle.accepted.specs.Options.{Feasible}
-use Rattle.sets.specs.Sets.{has}
-use Rattle.build.specs.Walk.{chosen, Stepped}
-use Rattle.build.proofs.Split.{chosen_from, chosen-feasible}
-use Rattle.build.proofs.Pass.{Pass, finish, pass_more}
+use Rattle.build.specs.Walk.{chosen}
+use Rattle.build.proofs.Split.{chosen_from}
+use Rattle.build.proofs.Step.{own_small, pass_on, pass_off}
 use Rattle.build.proofs.Prefix.{usable_long, copied, begin_at}
 use Rattle.build.proofs.build.Goals as goal
-use Rattle.build.proofs.build.Goals.{After-choice-a, Start}
-
-kept : (s : goal.Start) → s.args.r ≤ length s.args.plan.now
-kept s = usable_long s.args.b.now s.args.plan.now s.args.r s.requires.3
-
-pub copy_before-requires : goal.copy_before-requires
-copy_before-requires c =
-    let s = (goal.at.copy_before-requires c).Start in
-    (kept s, omega (arith, s.requires.4, s.requires.7))
+use Rattle.build.proofs.build.Goals.{In-loop-s, Joined-s-r, then-has, then-s-r, else-s-r, else-has}
 
 -- the bytes before r are there
-module _ (s : goal.Start) {o : List ℕ} (e : o ≡ take s.args.r s.args.plan.now ++ drop s.args.r s.args.out.now) where
-  front : (length o ≡ state_count s.args.b.now) × (take s.args.r o ≡ take s.args.r s.args.plan.now)
-  front =
-      copied s.args.plan.now s.args.out.now s.args.r (state_count s.args.b.now) (kept s) s.requires.7 (omega (arith, s.requires.4)) e
-
-  begun : Pass s.args.b.now (chosen s.args.b.now s.args.plan.now s.args.r s.args.c) s.args.r s.args.from o
-  begun = begin_at s.args.b.now s.args.plan.now s.args.r s.args.c s.args.from o s.requires.6 front.0 front.1
-
 pub loop-s-init : goal.loop-s-init
 loop-s-init c =
-    let s = (goal.at.loop-s-init c).Start in
-    (omega (arith, c.requires.4), begun s c.copy_before.ensures, omega arith)
+    let kept = usable_long c.args.b.now c.args.plan.now c.args.r c.requires.3 in
+    let front = copied c.args.plan.now c.args.out.now c.args.r (state_count c.args.b.now) kept c.requires.7 (omega (arith, c.requires.4))
+    (ap (λ (xs : List ℕ). xs ++ drop c.args.r c.args.out.now) c.copy_from_slice.ensures.after) in
+    begin_at c.args.b.now c.args.plan.now c.args.r c.args.c c.args.from _ c.requires.6 front.0 front.1
 
-pub choice-a-requires : goal.choice-a-requires
-choice-a-requires c = omega (arith, c.loop-s.invariant.1.long, (accepted c.args.b.now c.requires.0).sizes.s_high)
+here : (c : goal.In-loop-s) → (c.loop-s.s < state_count c.args.b.now) × (c.loop-s.s < 64)
+here c = let l : c.loop-s.s < state_count c.args.b.now = omega (arith, c.loop-s.invariant.long) in (l, omega (arith, l, (accepted c.args.b.now c.requires.0).sizes.s_high))
 
--- the action of the state
-module _ (c : goal.After-choice-a) where
-  -- the action at each state
-  abbrev choose : ℕ → ℕ
-  choose = chosen c.args.b.now c.args.plan.now c.args.r c.args.c
-
-  here : c.loop-s.s < state_count c.args.b.now
-  here = omega (arith, c.loop-s.invariant.1.long)
-
-  is : c.choice-a.result ≡ choose c.loop-s.s
+-- the action of a state that is reached
+module _ (c : goal.Joined-s-r) (l : c.loop-s.s < state_count c.args.b.now) where
+  is : c.if-s-r.a ≡ chosen c.args.b.now c.args.plan.now c.args.r c.args.c c.loop-s.s
   is =
-      c.choice-a.ensures
-      ∙ chosen_from c.args.b.now c.args.plan.now c.args.r c.args.c c.loop-s.s c.loop-s.invariant.2 c.args.best.now c.requires.2 here
+      chosen_from c.args.b.now c.args.plan.now c.args.r c.args.c c.loop-s.s c.loop-s.auto.s c.args.best.now c.requires.2 l c.if-s-r.a
+      (elim c.if-s-r.branch [ then-s-r w ↦ inl (w.if-s-r.true, w.a-is) | else-s-r w ↦ inr (w.if-s-r.false, w.a-is) ])
 
-  -- a policy goes on from it where it is reached
-  goes : has c.loop-s.reach c.loop-s.s ≡ true → Feasible c.args.b.now c.loop-s.s (choose c.loop-s.s)
-  goes e =
-      let h = c.loop-s.invariant.1 in
-      chosen-feasible c.args.b.now c.args.plan.now c.args.r c.args.c c.loop-s.s c.loop-s.invariant.2
-      (h.alive c.loop-s.s (is_in_in c.loop-s.s h.reach (true-T (sym (h.set_is.at c.loop-s.s) ∙ e)))) c.requires.5
+  small : c.if-s-r.a < 8
+  small =
+      own_small c.args.b.now c.requires.0 c.args.plan.now c.args.r c.args.c c.requires.5 c.loop-s.s c.loop-s.reach c.loop-s.out c.loop-s.auto.s l
+      c.loop-s.invariant (sym c.has.ensures ∙ c.if-has.true) c.if-s-r.a is
 
-pub step-t-requires : goal.step-t-requires
-step-t-requires c =
-    let a = (goal.at.step-t-requires c).After-choice-a in (
-      c.requires.0,
-      c.requires.1,
-      here a,
-      λ e. subst (Feasible c.args.b.now c.loop-s.s) (sym (is a)) (goes a e),
-    )
+pub has-requires : goal.has-requires
+has-requires c = (here (goal.at.has-requires c).In-loop-s).1
+
+pub bounds-best-s : goal.bounds-best-s
+bounds-best-s c = omega (arith, here (goal.at.bounds-best-s c).In-loop-s)
+
+pub overflow_cast-out : goal.overflow_cast-out
+overflow_cast-out c = let g = goal.at.overflow_cast-out c in omega (arith, small g.Joined-s-r (here g.In-loop-s).0)
+
+pub overflow_mul-s : goal.overflow_mul-s
+overflow_mul-s c = omega (arith, here (goal.at.overflow_mul-s c).In-loop-s)
+
+pub overflow_add-s : goal.overflow_add-s
+overflow_add-s c = let g = goal.at.overflow_add-s c in omega (arith, here g.In-loop-s, small g.Joined-s-r (here g.In-loop-s).0)
+
+pub offset_bounds-nx-s : goal.offset_bounds-nx-s
+offset_bounds-nx-s c = let g = goal.at.offset_bounds-nx-s c in omega (arith, here g.In-loop-s, small g.Joined-s-r (here g.In-loop-s).0)
+
+pub bounds-nx-s : goal.bounds-nx-s
+bounds-nx-s c = let g = goal.at.bounds-nx-s c in omega (arith, here g.In-loop-s, small g.Joined-s-r (here g.In-loop-s).0)
 
 pub loop-s-preserved : goal.loop-s-preserved
 loop-s-preserved c =
-    let a = (goal.at.loop-s-preserved c).After-choice-a in (
-      omega (arith, c.loop-s.invariant.1.long),
-      pass_more c.args.b.now (choose a) c.loop-s.s c.loop-s.reach c.loop-s.out c.loop-s.invariant.1 c.requires.0
-          (here a) (goes a) c.step-t.result.byte c.step-t.result.reach
-          (subst (λ (d : ℕ). Stepped (action c.args.b.now) c.loop-s.s d c.step-t.result.byte c.loop-s.reach c.step-t.result.reach)
-          (is a) c.step-t.ensures),
-      omega arith,
-    )
-
-pub shape_of-out : goal.shape_of-out
-shape_of-out c = c.loop-s.invariant.1.long ∙ sym c.requires.7
-
-pub returns : goal.returns
-returns c =
-    finish c.args.b.now (chosen c.args.b.now c.args.plan.now c.args.r c.args.c) c.loop-s.s c.loop-s.reach c.loop-s.out c.loop-s.invariant.1
-    (omega (arith, c.loop-s.invariant.1.long))
+    let ws = c.args.b.now in
+    let i = c.loop-s in
+    let l = (here (goal.at.loop-s-preserved c).In-loop-s).0 in
+    elim c.if-has.branch [
+      | then-has w ↦
+          rw (w.out-is, w.reach-is)
+          (pass_on ws c.requires.0 c.args.plan.now c.args.r c.args.c c.requires.5 i.s i.reach i.out i.auto.s l i.invariant
+          (sym c.has.ensures ∙ w.if-has.true) w.if-s-r.a
+          (chosen_from ws c.args.plan.now c.args.r c.args.c i.s i.auto.s c.args.best.now c.requires.2 l w.if-s-r.a
+          (elim w.if-s-r.branch [ then-s-r v ↦ inl (v.if-s-r.true, v.a-is) | else-s-r v ↦ inr (v.if-s-r.false, v.a-is) ]))
+          c.args.nx.now c.requires.1 w.union-reach.result w.union-reach.ensures)
+      | else-has w ↦
+          rw (w.out-is, w.reach-is)
+          (pass_off ws c.requires.0 c.args.plan.now c.args.r c.args.c c.requires.5 i.s i.reach i.out i.auto.s l i.invariant
+          (sym c.has.ensures ∙ w.if-has.false))
+    ]

@@ -16,9 +16,6 @@ use Rattle.build.proofs.Prefix.{passed_more, passed_bare}
 use Rattle.build.proofs.pass_state.Goals as goal
 use Rattle.build.proofs.pass_state.Goals.{Else-a-eq255}
 
-pub bounds-plan-s : goal.bounds-plan-s
-bounds-plan-s c = c.requires.3.0
-
 pub returns-then-a-eq255 : goal.returns-then-a-eq255
 returns-then-a-eq255 c =
     let there : get_or c.args.plan.now c.args.s 0 ≡ byte_at c.args.plan.now c.args.s = byte_is c.args.plan.now c.args.s 0 255 c.requires.3.0 in
@@ -48,11 +45,11 @@ module _ (c : goal.Else-a-eq255) where
     omega (arith, c.requires.2, (accepted ws c.requires.0).sizes.s_high),
   )
 
-pub overflow_mul-more : goal.overflow_mul-more
-overflow_mul-more c = let a = small (goal.at.overflow_mul-more c).Else-a-eq255 in omega (arith, a)
+pub overflow_mul-s : goal.overflow_mul-s
+overflow_mul-s c = let a = small (goal.at.overflow_mul-s c).Else-a-eq255 in omega (arith, a)
 
-pub overflow_add-more : goal.overflow_add-more
-overflow_add-more c = let a = small (goal.at.overflow_add-more c).Else-a-eq255 in omega (arith, a)
+pub overflow_add-s : goal.overflow_add-s
+overflow_add-s c = let a = small (goal.at.overflow_add-s c).Else-a-eq255 in omega (arith, a)
 
 pub offset_bounds-nx-s : goal.offset_bounds-nx-s
 offset_bounds-nx-s c = let a = small (goal.at.offset_bounds-nx-s c).Else-a-eq255 in omega (arith, a)
@@ -68,6 +65,6 @@ returns c =
     let on : SetOf more (nexts (action (ws e) c.args.s (byte_at (bs e) c.args.s)).transitions) =
     subst (λ (a : ℕ). SetOf more (nexts (action (ws e) c.args.s a).transitions)) (there e)
     (c.requires.1.at c.args.s (get_or (bs e) c.args.s 0) c.requires.2 (goes_on e)) in
-    passed_more (ws e) (bs e) c.requires.0 c.args.s c.requires.2 c.args.reach c.requires.4 c.requires.3.1 c.union64.result
-    (subst (λ (m : ℕ). SetOf m (onward (action (ws e)) c.args.s (byte_at (bs e) c.args.s) h.reach)) (sym c.union64.ensures)
+    passed_more (ws e) (bs e) c.requires.0 c.args.s c.requires.2 c.args.reach c.requires.4 c.requires.3.1 c.union.result
+    (subst (λ (m : ℕ). SetOf m (onward (action (ws e)) c.args.s (byte_at (bs e) c.args.s) h.reach)) (sym c.union.ensures)
     (set-union more c.args.reach _ h.reach on h.set_is))

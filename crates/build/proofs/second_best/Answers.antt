@@ -42,16 +42,12 @@ returns-then-c-eq255 c =
     let s = (goal.at.returns-then-c-eq255 c).Start in
     sym (ap (λ (ys : List ℕ). best_of (f s) (free (with 0 s.args.c) ys)) (none-best (f s) (xs s) (below s) (sym s.requires.2 ∙ c.if-c-eq255.true)))
 
-pub overflow_cast-c : goal.overflow_cast-c
-overflow_cast-c c = omega (arith, small (goal.at.overflow_cast-c c).Start c.if-c-eq255.false)
-
-pub with8-own-requires : goal.with8-own-requires
-with8-own-requires c = small (goal.at.with8-own-requires c).Start c.if-c-eq255.false
+pub with-own-requires : goal.with-own-requires
+with-own-requires c = small (goal.at.with-own-requires c).Start c.if-c-eq255.false
 
 pub returns : goal.returns
 returns c =
-    let w = c in
-    let s = (goal.at.returns w).Start in
+    let s = (goal.at.returns c).Start in
     c.best_action.ensures
-    ∙ ap (λ (m : ℕ). best_of (f s) (free m (up_from 0 s.args.n))) w.with8-own.ensures
+    ∙ ap (λ (m : ℕ). best_of (f s) (free m (up_from 0 s.args.n))) c.with-own.ensures
     ∙ ap (best_of (f s)) (free-with s.args.off s.args.c (up_from 0 s.args.n))
