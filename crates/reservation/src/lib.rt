@@ -98,7 +98,8 @@ impl Desk {
         rank_of(self.committed, rider)
     }
 
-    // Is the rank with no other rider? All sixteen are asked, with no branch on what one has: sixteen bytes are compared at a time.
+    // Is the rank with no other rider? All sixteen are asked, with no branch on what one has: sixteen bytes are compared at a time. (With a bool for each
+    // rider in place of a byte it was tried and slower.)
     #[tactic(auto, using(crate::proofs::Bits::bits))]
     fn is_free(self, rider: u8, rank: u8) -> bool
         ensures { result ≡ free self rider rank }
