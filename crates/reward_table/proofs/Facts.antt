@@ -1,7 +1,7 @@
 -- The questions 25 and 26 by the words that are read.
 -- Assumes nothing.
 use mathlib.Core.Path.{◌≡◌, refl, sym, ap, ap₂, ◌∙◌}
-use Prim.Native.Nat.{ℕ, zero, suc, ◌+◌, ◌≤◌}
+use Prim.Native.Nat.{ℕ, zero, suc, ◌+◌, ◌-◌, ◌≤◌, ◌<◌}
 use native.Mathlib.Numerals.{add-one}
 use native.Mathlib.Omega.{arith}
 use borrow.Author.Tests.{le-leb, lt-leb, ne_eqb}
@@ -10,6 +10,8 @@ use lib.Dec.{eqb}
 use mir.Syntax.{w64}
 use mir.Val.{SFits, of_z}
 use lib.IntN.{ℤ, pos, negsuc, nat_abs, ◌+ℤ◌}
+use lib.ListN.{length, take, drop, get_or, length-drop}
+use lib.Seq.{length-take-le, get_or-take, get_or-drop}
 use lib.Signed.{le_z, lt_z}
 use Rattle.model.specs.Lists.{all}
 use Rattle.model.specs.Model.{Words, word}
@@ -56,9 +58,9 @@ count_at t s r e = e
 pub sum_more : (n : ℕ) (f : ℕ → ℤ) → sum_z (n + 1) f ≡ sum_z n f +ℤ f n
 sum_more n f = rw add-one
 
-pub sum_z-same : (n : ℕ) (f g : ℕ → ℤ) → ((i : ℕ) → f i ≡ g i) → sum_z n f ≡ sum_z n g
+sum_z-same : (n : ℕ) (f g : ℕ → ℤ) → ((i : ℕ) → i < n → f i ≡ g i) → sum_z n f ≡ sum_z n g
 sum_z-same zero f g h = refl
-sum_z-same (suc n) f g h = ap₂ ◌+ℤ◌ (sum_z-same n f g h) (h n)
+sum_z-same (suc n) f g h = ap₂ ◌+ℤ◌ (sum_z-same n f g (λ i l. h i (omega arith))) (h n (omega arith))
 
 -- a sum that is a number, as the code compares them
 exact : (d : ℕ) (y : ℤ) → SFits w64 y → d ≤ 100 → eqb (of_z w64 y) d ≡ inside (pos d) (pos d) y
@@ -67,13 +69,17 @@ exact d (negsuc n) f h = let k = f.sfits in ne_eqb (of_z w64 (negsuc n)) d (λ e
 
 -- the weights of an action, as they were read and added
 pub weights_as : (t : Words) (z : Table) → TableRead t z → z.d ≤ 100 → (j at r : ℕ) → at ≡ z.columns + j + z.l + 1 → r ≡ table_branches t j
-    → (y : ℤ) → SFits w64 y → y ≡ sum_z r (λ (i : ℕ). word t (at + i)) → eqb (of_z w64 y) z.d ≡ weights_add t j
-unfolding weights_add
-weights_as t z are h j at r a b y f e =
+    → at + r ≤ length t → (y : ℤ) → SFits w64 y → (let ws = take (at + r - at) (drop at t) in y ≡ sum_z (length ws) (word ws))
+    → eqb (of_z w64 y) z.d ≡ weights_add t j
+unfolding weights_add word
+weights_as t z are h j at r a b room y f e =
+    let k : at + r - at ≡ r = omega arith in
+    let n = length-take-le r (drop at t) (omega (arith, length-drop at t, room)) in
     exact z.d y f h
     ∙ ap₂ (λ (x y : ℤ). inside x x y) (ap pos are.d_is)
-    (e ∙ sum_z-same r (λ (i : ℕ). word t (at + i)) (λ (i : ℕ). table_right t (j + 1 + i))
-    (λ i. right_at t z are (j + 1 + i) (at + i) (omega (arith, a)))
+    ((rw (k, n) at e)
+    ∙ sum_z-same r (λ (i : ℕ). get_or (take r (drop at t)) i (pos 0)) (λ (i : ℕ). table_right t (j + 1 + i))
+    (λ i l. get_or-take r (drop at t) i (pos 0) l ∙ get_or-drop at t i (pos 0) ∙ right_at t z are (j + 1 + i) (at + i) (omega (arith, a)))
     ∙ ap (λ (n : ℕ). sum_z n (λ (i : ℕ). table_right t (j + 1 + i))) b)
 
 -- ---- 26, of the closing lines

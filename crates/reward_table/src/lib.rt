@@ -51,13 +51,13 @@ pub fn read_table(t: &[i32]) -> Table
     }
 }
 
-// The sum of r words from word `at` on.
-fn weigh(t: &[i32], at: usize, r: usize) -> i64
-    requires { (at + r ≤ length t.now) × (r ≤ 2048) }
-    ensures { result ≡ sum_z r (λ i. word t.now (at + i)) }
+// The sum of words.
+fn weigh(ws: &[i32]) -> i64
+    requires { length ws.now ≤ 2048 }
+    ensures { result ≡ sum_z (length ws.now) (word ws.now) }
 {
-    let mut sum: i64 = 0;
-    for x in &t[at..at + r] {
+    let mut sum = 0;
+    for x in ws {
         sum += *x as i64;
     }
     sum
@@ -77,9 +77,10 @@ fn entry_given(t: &[i32], z: Table, j: usize) -> bool
         return false;
     }
     let r = book::size_at(t, at);
+    let weights = at + l + 1;
     j + 1 + r <= l
         && book::word_in(t, at + l, -100000, 100000)
-        && weigh(t, at + l + 1, r) == z.d as i64
+        && weigh(&t[weights..weights + r]) == z.d as i64
 }
 
 // The walk over the actions of state s, whose first line is line `start`: the line after the last, if each of them is as asked.

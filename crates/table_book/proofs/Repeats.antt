@@ -36,20 +36,18 @@ part-written o at w xs e h =
 module _ (o₀ : List ℤ) (at m w : ℕ) (xs : List ℤ) where
   -- it was written k times
   pub record Repeating (o : List ℤ) (k : ℕ) : Type 0 where
-    pub most : k ≤ m
     pub filling : Filling o₀ at (m * w) (repeated m xs) o (k * w) (repeated (m - k) xs)
 
   pub rep_start : Repeating o₀ 0
   rep_start =
       let z : m - 0 ≡ m = omega arith in
       let y : 0 * w ≡ 0 = omega arith in
-      record { most = omega arith; filling = rw (z, y) (fill_start o₀ at (m * w) (repeated m xs)) }
+      record { filling = rw (z, y) (fill_start o₀ at (m * w) (repeated m xs)) }
 
   module _ (fits : at + m * w ≤ length o₀) {o : List ℤ} {k : ℕ} (h : Repeating o k) where
     pub rep_step : length xs ≡ w → {o' : List ℤ} → k < m → o' ≡ written o (at + k * w) w xs → Repeating o' (k + 1)
     rep_step e l q =
         record {
-          most = omega arith;
           filling =
               fill_part o₀ at (m * w) (repeated m xs) fits h.filling w ((k + 1) * w) xs (repeated (m - (k + 1)) xs) e refl (one_more k w)
               (omega (arith, row_fits k m w l, one_more k w)) (copies_step k m xs l) q;
@@ -62,9 +60,8 @@ module _ (o₀ : List ℤ) (at m w : ℕ) (xs : List ℤ) where
         (sym (kept o (at + k * w) (m * w - k * w) (repeated (m - k) xs) (i + n) (omega arith) (omega (arith, h.filling.long, h.filling.most)))
         ∙ ap (take (i + n)) (sym h.filling.whole) ∙ kept o₀ at (m * w) (repeated m xs) (i + n) l (omega arith))
 
-    pub rep_end : m ≤ k → o ≡ written o₀ at (m * w) (repeated m xs)
-    rep_end l =
-        let e : k ≡ m = omega (arith, h.most) in
+    pub rep_end : k ≡ m → o ≡ written o₀ at (m * w) (repeated m xs)
+    rep_end e =
         let z : m - k ≡ 0 = omega arith in
         fill_end o₀ at (m * w) (repeated m xs) fits h.filling (rw e (omega arith)) (rw z)
 

@@ -56,7 +56,7 @@ pub fn measure(t: &[i32], z: Table) -> Sizes
 
 // ---- runs of words, written from index `at` on
 
-// `count` words that stand in `out` from word `from` on, m times more after them.
+// `count` words that stand in `out` from word `from` on, m times more after them. They are given by place and length: `out` is read and written at once.
 fn repeat(out: &mut [i32], from: usize, count: usize, m: usize)
     requires { from + count + m * count ≤ length out.old }
     ensures { out.new ≡ written out.old (from + count) (m * count) (repeated m (take count (drop from out.old))) }
@@ -88,7 +88,7 @@ fn turn_lines(t: &[i32], z: Table, j: usize, count: usize, out: &mut [i32], at: 
     }
 }
 
-// One of the two columns, of `count` lines from line j on.
+// One of the two columns, of `count` lines from line j on. `right` says which: `column_from` of specs/ takes a Bool.
 fn put_lines(t: &[i32], z: Table, right: bool, j: usize, count: usize, out: &mut [i32], at: usize)
     requires { Given t.now × TableRead t.now z × (j + count ≤ table_lines t.now) × Turnable t.now 0 j count × (at + count ≤ length out.old) }
     ensures { out.new ≡ written out.old at count (column_from t.now right j count) }

@@ -13,7 +13,7 @@ const MOST_TABLE: usize = 16472;
 // No book that passes its questions is longer.
 const MOST_BOOK: usize = 16688;
 
-// Where a program puts what it reads, and the book.
+// Where a program puts what it reads, and the book: functions, since their lengths are promised to be those of specs/.
 pub fn buffer() -> [u8; MOST_TABLE]
     ensures { length result ≡ most_table }
 {
@@ -48,7 +48,8 @@ fn convert_counted(r: &[u8], out: &mut [u8]) -> usize
     }
 }
 
-// The bytes of the book of any input, or the line of its refusal, to the front of `out`; gives their length. A slice that may be too short gets nothing.
+// The bytes of the book of any input, or the line of its refusal, to the front of `out`; gives their length. A slice that may be too short gets nothing,
+// and 0 is given: so `Put` has it.
 pub fn convert_bytes(r: &[u8], out: &mut [u8]) -> usize
     ensures { Put most_book (book_bytes r.now) out.old out.new result }
 {

@@ -1,7 +1,7 @@
 -- Each test of the chain is the definition's.
 -- Assumes nothing.
 use mathlib.Core.Path.{refl}
-use Prim.Native.Nat.{◌+◌}
+use Prim.Native.Nat.{◌+◌, ◌≤◌}
 use native.Mathlib.Omega.{arith}
 use Rattle.std.proofs.lemmas.Bool.Decides.{nat_tests}
 use Rattle.reward_table.specs.Table.{some_branch, lines_fit, reward_inside}
@@ -33,7 +33,8 @@ returns-then-word_in c =
     let r = right_at t z are j (z.columns + j + z.l) (omega arith) in
     let b = branches_at t z are j _ c.size_at-r.ensures.is in
     let a = after_is t j in
-    let w = weights_as t z are (omega (arith, are.d_is, c.requires.0.d_high)) j (z.columns + j + z.l + 1) _ refl b _ (record { sfits = c.weigh.type_inv }) c.weigh.ensures in
+    let fits : j + 1 + c.size_at-r.result ≤ z.l = grind arith in
+    let w = weights_as t z are (omega (arith, are.d_is, c.requires.0.d_high)) j (z.columns + j + z.l + 1) _ refl b (omega (arith, fits, c.requires.0.exact, are.columns_is, are.l_is)) _ (record { sfits = c.weigh.type_inv }) c.weigh.ensures in
     grind (arith, nat_tests, above_one)
 
 pub returns-else-word_in : goal.returns-else-word_in

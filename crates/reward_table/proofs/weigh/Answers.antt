@@ -1,5 +1,5 @@
 -- Assumes nothing.
-use Rattle.std.proofs.Common.{arith, get_or-take, get_or-drop}
+use Rattle.std.proofs.Common.{arith}
 use Rattle.std.proofs.lemmas.Int.{ints, to_z-of_z}
 use Rattle.model.specs.Model.{word}
 use Rattle.reward_table.proofs.Facts.{sum_more}
@@ -7,4 +7,4 @@ use Rattle.reward_table.proofs.weigh.Goals as goal
 
 pub loop-x-preserved : goal.loop-x-preserved
 unfolding word
-loop-x-preserved c = (grind (arith, ints, to_z-of_z, sum_more, get_or-take, get_or-drop), omega (arith, ints))
+loop-x-preserved c = (grind (arith, ints, to_z-of_z, sum_more), omega (arith, ints))
