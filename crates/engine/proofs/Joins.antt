@@ -6,7 +6,7 @@ use mathlib.Core.List.{List, [], ◌∷◌}
 use Prim.Native.Nat.{ℕ, ◌+◌, ◌*◌, ◌≤◌, ◌<◌}
 use native.Mathlib.Omega.{arith}
 use lib.IntN.{ℤ}
-use lib.ListN.{set, get_or, take}
+use lib.ListN.{length, set, get_or, take}
 use lib.Seq.{paste}
 use Rattle.model.specs.Model.{Words, state_count, action}
 use Rattle.model.specs.Policy.{Policy}
@@ -22,8 +22,6 @@ use Rattle.pool.proofs.Moves.{slot_low}
 use Rattle.pool.proofs.Insertion.{unchanged, place-before, filled_inserted, beyond_kept}
 use Rattle.child.specs.Children.{child_of, joined}
 use Rattle.child.specs.declared.Child.{Child}
-use Rattle.engine.specs.Engine.{RowOf}
-use Rattle.engine.proofs.Parts.{row-take}
 
 pub few : {ws : Words} {z : Sizes} → Checked ws z → z.s ≤ 64
 few {ws} known = omega (arith, known.sizes.s_is, (accepted ws known.ok).sizes.s_high)
@@ -36,59 +34,62 @@ module _ {ws : Words} {z : Sizes} (known : Checked ws z) (bs : Policy) (p : ℕ)
   Joined r = Holding S (joined pool.most (child_of ws bs p d) (entries S pool)) pool r
 
   -- it costs more than the last of those that may wait
-  pub stays_out : beyond_of pool.count pool.most d.cost pool.costs pool.order ≡ true → Joined pool
+  pub stays_out : beyond_of (length (take pool.count pool.order)) pool.most d.cost pool.costs (take pool.count pool.order) ≡ true → Joined pool
   stays_out h = beyond_kept pool S (child_of ws bs p d) formed h
 
   -- it is compared
-  module _ {row : List ℕ} (is : RowOf (walk_by (action ws) (chosen ws bs p d.action) S 0 (0 ∷ [])) row) {i : ℕ}
-      (place : i ≡ first_yes (earlier_than d.cost (take z.s row) z.s pool.costs pool.plans) (take pool.count pool.order)) where
-    enters : {r : Pool} → Inserted z.s (record { cost = d.cost; plan = take z.s row; split = p; mask = d.mask }) pool r → Joined r
-    enters {r} i =
-        let all = known.sizes.s_is in
-        let long = walk_long (action ws) (chosen ws bs p d.action) S 0 (0 ∷ []) in
-        let plan_is : take z.s row ≡ (child_of ws bs p d).plan = row-take z.s is (long ∙ sym all) in
-        record {
-          formed = i.formed;
-          same-most = i.same-most;
-          waits = ap (λ (n : ℕ). entries n r) (sym all) ∙ i.waits
-              ∙ (λ t. joined pool.most (record { cost = d.cost; plan = plan_is t; split = p; mask = d.mask }) (entries (all t) pool));
-        }
+  module _ {row : List ℕ} (is : row ≡ walk_by (action ws) (chosen ws bs p d.action) S 0 (0 ∷ [])) where
+    all : length row ≡ S
+    all = ap length is ∙ walk_long (action ws) (chosen ws bs p d.action) S 0 (0 ∷ [])
 
-    -- others come before it
-    pub no_place : pool.most ≤ i → Joined pool
-    no_place h = enters (unchanged pool formed z.s (few known) d.cost row is.long p d.mask i place h)
+    pub row_short : length row ≤ 64
+    row_short = omega (arith, all, few known, known.sizes.s_is)
 
-    -- it goes to the slot of place `last`, and that to place i
-    module _ {last : ℕ} (spare : (last < pool.most) × Spare last pool.count pool.most) (new : i < pool.most) where
-      pub before_last : i ≤ last
-      before_last = place-before pool formed z.s (few known) d.cost row is.long p d.mask i place last spare new
+    module _ {i : ℕ} (place : i ≡ first_yes (earlier_than d.cost row (length row) pool.costs pool.plans) (take pool.count pool.order)) where
+      enters : {r : Pool} → Inserted (length row) (record { cost = d.cost; plan = row; split = p; mask = d.mask }) pool r → Joined r
+      enters {r} i =
+          record {
+            formed = i.formed;
+            same-most = i.same-most;
+            waits = ap (λ (n : ℕ). entries n r) (sym all) ∙ i.waits
+                ∙ (λ t. joined pool.most (record { cost = d.cost; plan = is t; split = p; mask = d.mask }) (entries (all t) pool));
+          }
 
-      pub last_low : last < 64
-      last_low = omega (arith, spare.0, formed.most_high)
+      -- others come before it
+      pub no_place : pool.most ≤ i → Joined pool
+      no_place h = enters (unchanged pool formed d.cost row row_short p d.mask i place h)
 
-      pub slot_small : get_or pool.order last 0 < 64
-      slot_small = slot_low formed.slots last last_low
+      -- it goes to the slot of place `last`, and that to place i
+      module _ {last : ℕ} (spare : (last < pool.most) × Spare last pool.count pool.most) (new : i < pool.most) where
+        pub before_last : i ≤ last
+        before_last = place-before pool formed d.cost row row_short p d.mask i place last spare new
 
-      pub placed : {ps o : List ℕ} → ps ≡ paste pool.plans (get_or pool.order last 0 * 64) row z.s → o ≡ moved_up i last pool.order
-          → Joined (record {
-            costs = set pool.costs (get_or pool.order last 0) d.cost;
-            plans = ps;
-            splits = set pool.splits (get_or pool.order last 0) p;
-            barred = set pool.barred (get_or pool.order last 0) d.mask;
-            order = o;
-            count = last + 1;
-            most = pool.most;
-          })
-      placed {ps} {o} hp ho =
-          enters
-          (subst (Inserted z.s (record { cost = d.cost; plan = take z.s row; split = p; mask = d.mask }) pool)
-          (λ t. record {
-            costs = set pool.costs (get_or pool.order last 0) d.cost;
-            plans = sym hp t;
-            splits = set pool.splits (get_or pool.order last 0) p;
-            barred = set pool.barred (get_or pool.order last 0) d.mask;
-            order = sym ho t;
-            count = last + 1;
-            most = pool.most;
-          })
-          (filled_inserted pool formed z.s (few known) d.cost row is.long p d.mask i place last spare new))
+        pub last_low : last < 64
+        last_low = omega (arith, spare.0, formed.most_high)
+
+        pub slot_small : get_or pool.order last 0 < 64
+        slot_small = slot_low formed.slots last last_low
+
+        pub placed : {ps o : List ℕ} → ps ≡ paste pool.plans (get_or pool.order last 0 * 64) row (length row) → o ≡ moved_up i last pool.order
+            → Joined (record {
+              costs = set pool.costs (get_or pool.order last 0) d.cost;
+              plans = ps;
+              splits = set pool.splits (get_or pool.order last 0) p;
+              barred = set pool.barred (get_or pool.order last 0) d.mask;
+              order = o;
+              count = last + 1;
+              most = pool.most;
+            })
+        placed {ps} {o} hp ho =
+            enters
+            (subst (Inserted (length row) (record { cost = d.cost; plan = row; split = p; mask = d.mask }) pool)
+            (λ t. record {
+              costs = set pool.costs (get_or pool.order last 0) d.cost;
+              plans = sym hp t;
+              splits = set pool.splits (get_or pool.order last 0) p;
+              barred = set pool.barred (get_or pool.order last 0) d.mask;
+              order = sym ho t;
+              count = last + 1;
+              most = pool.most;
+            })
+            (filled_inserted pool formed d.cost row row_short p d.mask i place last spare new))

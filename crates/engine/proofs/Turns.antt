@@ -7,7 +7,7 @@ use native.Mathlib.Nat.{mul-le-mul_right}
 use native.Mathlib.Omega.{arith}
 use borrow.Rule.Slice.PartMut.{put_mid}
 use lib.IntN.{ℤ}
-use lib.ListN.{length, set}
+use lib.ListN.{length, set, take, drop}
 use Rattle.std.specs.Prelude.{Option}
 use Rattle.model.specs.Model.{Words, state_count}
 use Rattle.model.specs.Questions.{book_number}
@@ -28,7 +28,7 @@ use Rattle.child.specs.declared.Child.{Child}
 use Rattle.child.specs.declared.Parent.{Parent}
 use Rattle.child.specs.Children.{entry_of, joined_if, ChildIs}
 use Rattle.engine.specs.Engine.{admitted_from, split_pool, Taken, Roomy, Found, first_candidate}
-use Rattle.engine.proofs.Parts.{put_is}
+use Rattle.engine.proofs.Parts.{part_long, put_is}
 use Rattle.engine.proofs.States.{from_split, state_more, states-end}
 use Rattle.engine.proofs.Listing.{pool_empty, Listing, begin, finish, done, none_waits, first-right, pool_next, pool_last}
 
@@ -151,15 +151,21 @@ module _ {ws : Words} {z : Sizes} (known : Checked ws z) {k : ℕ} {costs₀ : L
   some = omega (arith, none)
 
   -- the bytes of the first that waits have their part
-  pub part_room : j * n + n ≤ length plans
+  part_room : j * n + n ≤ length plans
   part_room =
       let up_to : j + 1 ≤ k = omega (arith, more) in
       subst (λ (m : ℕ). j * m + m ≤ length plans) (sym all)
       (omega (arith, plans_long ws known.ok k costs₀ plans₀ turn, room.plans_room, mul-le-mul_right (state_count ws) up_to))
 
-  module _ {left : Pool} {d : Parent} {bs : List ℕ} (taken : Taken n pool left d bs) where
+  abbrev part : List ℕ
+  part = take (j * n + n - j * n) (drop (j * n) plans)
+
+  pub part_size : length part ≡ state_count ws
+  part_size = part_long plans (j * n) n (state_count ws) all part_room ∙ all
+
+  module _ {left : Pool} {d : Parent} {bs : List ℕ} (taken : Taken (length part) pool left d bs) where
     first_is : entry_of d bs ≡ first_entry (state_count ws) pool
-    first_is = taken.first ∙ ap (λ (m : ℕ). first_entry m pool) all
+    first_is = taken.first ∙ ap (λ (m : ℕ). first_entry m pool) part_size
 
     pub taken_right : Right ws (entry_of d bs)
     taken_right = subst (Right ws) (sym first_is) (waiting_right ws known.ok k costs₀ plans₀ turn some)

@@ -1,6 +1,6 @@
 -- What the search asks of its parts and what each step makes of the pool.
 -- Assumes nothing.
-use Rattle.std.specs.Prelude.{◌≡◌, List, [], ◌∷◌, map, ℕ, ◌*◌, ◌≤◌, ◌<◌, ℤ, length, take}
+use Rattle.std.specs.Prelude.{◌≡◌, List, [], ◌∷◌, map, ℕ, ◌*◌, ◌≤◌, ◌<◌, ℤ, length}
 use Rattle.model.specs.Lists.{for_each}
 use Rattle.model.specs.Order.{ranking, ranking_costs}
 use Rattle.model.specs.Calls.{over}
@@ -27,11 +27,6 @@ pub record Ready (ws : Words) (z : Sizes) (x nx : List ℕ) (q : List ℤ) (best
   pub next : NextsOf ws nx
   pub rows : RowsOf ws q
   pub firsts : BestOf ws best
-
--- the row r begins with the bytes bs
-pub record RowOf (bs r : List ℕ) : Type 0 where
-  pub long : length r ≡ 64
-  pub begins : take (length bs) r ≡ bs
 
 -- the entries after the children of e at the n states from p on joined them
 abbrev pub admitted_from : Words → ℕ → Entry → ℕ → ℕ → List Entry → List Entry

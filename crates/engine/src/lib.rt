@@ -7,7 +7,7 @@
 #![tactic(auto)]
 
 ghost use Rattle.std.specs.Prelude.{◌≡◌, [], ◌∷◌, ◌*◌, ◌<◌, ◌≤◌, length};
-ghost use Rattle.model.specs.Model.{state_count, action};
+ghost use Rattle.model.specs.Model.{state_count};
 ghost use Rattle.model.specs.Questions.{book_number};
 ghost use Rattle.accepted.specs.Options.{Feasible, Alive};
 ghost use Rattle.splits.specs.Search.{admit};
@@ -17,54 +17,35 @@ ghost use Rattle.stored.specs.Runs.{itself, children_of, run_entries};
 ghost use Rattle.index.specs.Index.{Checked, Indexed};
 ghost use Rattle.nexts.specs.Nexts.{NextsOf};
 ghost use Rattle.build.specs.Best.{BestOf, SecondOf};
-ghost use Rattle.build.specs.Walk.{walk_by, chosen, Usable, Walked};
+ghost use Rattle.build.specs.Walk.{Usable, Walked};
 ghost use Rattle.child.specs.Children.{entry_of, child_of, joined};
 ghost use Rattle.pool.specs.Entries.{entries, Formed, Holding};
-ghost use Rattle.engine.specs.Engine.{Ready, RowOf, Taken, Startable, Roomy, Found, first_candidate, Ranked};
+ghost use Rattle.engine.specs.Engine.{Ready, Taken, Startable, Roomy, Found, first_candidate, Ranked};
 
 use book::Sizes;
 use child::{Child, Parent};
 use pool::Pool;
 use sets::Set;
 
-// Fills the row with the bytes of the policy that has those of `plan` before state p, takes action c at p and first best actions after it. `from` is
-// the set of the states that the bytes before p reach.
-fn row_of(
-    b: &[i32],
-    z: Sizes,
-    nx: &[u64; 512],
-    best: &[u8; 192],
-    plan: &[u8],
-    p: usize,
-    c: usize,
-    from: u64,
-    row: &mut [u8],
-)
-    requires { Checked b.now z × NextsOf b.now nx.now × BestOf b.now best.now × Usable b.now plan.now p × (p < state_count b.now) × Feasible b.now p c × Walked b.now plan.now p from × (length row.old ≡ 64) }
-    ensures { RowOf (walk_by (action b.now) (chosen b.now plan.now p c) (state_count b.now) 0 (0 ∷ [])) row.new }
-{
-    let s = z.s;
-    build::build(b, nx, best, plan, p, c, from, &mut row[..s]);
-}
-
 // The pool of at most k with the first candidate: all policies, of which the first takes the first best actions and costs `cost`.
 fn first_pool(b: &[i32], z: Sizes, nx: &[u64; 512], best: &[u8; 192], cost: i64, k: usize) -> Pool
     requires { Checked b.now z × NextsOf b.now nx.now × BestOf b.now best.now × Alive b.now 0 × (cost ≡ (first_candidate b.now).cost) × (1 ≤ k) × (k ≤ 64) }
     ensures { Formed result × (result.most ≡ k) × (entries (state_count b.now) result ≡ first_candidate b.now ∷ []) }
 {
-    let mut row = [0; 64];
-    row_of(b, z, nx, best, &[], 0, best[0] as usize, 1, &mut row);
-    pool::single(k, z.s, cost, &row)
+    let mut room = [0; 64];
+    let row = &mut room[..z.s];
+    build::build(b, nx, best, &[], 0, best[0] as usize, 1, row);
+    pool::single(k, cost, row)
 }
 
 // Takes the first candidate that waits away, and its bytes to `plan`.
-fn take_first(pool: &mut Pool, s: usize, plan: &mut [u8]) -> Parent
-    requires { Formed pool.old × (1 ≤ pool.old.count) × (s ≤ 64) × (length plan.old ≡ s) }
-    ensures { Taken s pool.old pool.new result plan.new }
+fn take_first(pool: &mut Pool, plan: &mut [u8]) -> Parent
+    requires { Formed pool.old × (1 ≤ pool.old.count) × (length plan.old ≤ 64) }
+    ensures { Taken (length plan.old) pool.old pool.new result plan.new }
 {
     let slot = pool.order[0] as usize;
-    pool::read_row(&pool.plans, slot, s, plan);
-    pool::move_back(&mut pool.order, pool.count);
+    pool::read_row(&pool.plans, slot, plan);
+    pool.order[..pool.count].rotate_left(1);
     pool.count -= 1;
     Parent {
         cost: pool.costs[slot],
@@ -89,20 +70,20 @@ fn join(
     requires { Checked b.now z × NextsOf b.now nx.now × BestOf b.now best.now × Usable b.now plan.now p × (p < state_count b.now) × Feasible b.now p d.action × Walked b.now plan.now p from × Formed pool.old }
     ensures { Holding (state_count b.now) (joined pool.old.most (child_of b.now plan.now p d) (entries (state_count b.now) pool.old)) pool.old pool.new }
 {
-    let s = z.s;
     let n = pool.count;
     let k = pool.most;
-    if pool::beyond(&pool.costs, &pool.order, n, k, d.cost) {
+    if pool::beyond(&pool.costs, &pool.order[..n], k, d.cost) {
         return;
     }
-    let mut row = [0; 64];
-    row_of(b, z, nx, best, plan, p, d.action, from, &mut row);
-    let i = pool::place(&pool.costs, &pool.plans, &pool.order, n, s, d.cost, &row);
+    let mut room = [0; 64];
+    let row = &mut room[..z.s];
+    build::build(b, nx, best, plan, p, d.action, from, row);
+    let i = pool::place(&pool.costs, &pool.plans, &pool.order[..n], d.cost, row);
     if i < k {
         let last = pool::spare_place(n, k);
         let slot = pool.order[last] as usize;
         pool.costs[slot] = d.cost;
-        pool::write_row(&mut pool.plans, slot, s, &row);
+        pool::write_row(&mut pool.plans, slot, row);
         pool.splits[slot] = p as u8;
         pool.barred[slot] = d.mask;
         pool::move_up(&mut pool.order, i, last);
@@ -159,7 +140,7 @@ fn search(
             return j;
         }
         let plan = &mut plans[j * s..j * s + s];
-        let e = take_first(&mut pool, s, plan);
+        let e = take_first(&mut pool, plan);
         costs[j] = e.cost;
         if j + 1 < k {
             split(b, z, x, nx, q, best, plan, e, &mut pool);

@@ -18,7 +18,10 @@ first_one : (o : List ℕ) → 1 ≤ length o → take 1 o ≡ get_or o 0 0 ∷ 
 first_one [] h = absurd (omega arith)
 first_one (x ∷ o) h = refl
 
-module _ (k s : ℕ) (low-k : 1 ≤ k) (high-k : k ≤ 64) (short : s ≤ 64) (o : List ℕ) (slots : Slots o) (x : ℤ) (bs : List ℕ) (long : length bs ≡ 64) where
+module _ (k : ℕ) (low-k : 1 ≤ k) (high-k : k ≤ 64) (o : List ℕ) (slots : Slots o) (x : ℤ) (bs : List ℕ) (short : length bs ≤ 64) where
+  abbrev s : ℕ
+  s = length bs
+
   abbrev j : ℕ
   j = get_or o 0 0
 
@@ -34,22 +37,19 @@ module _ (k s : ℕ) (low-k : 1 ≤ k) (high-k : k ≤ 64) (short : s ≤ 64) (o
         most = k;
       }
 
-  bytes_long : s ≤ length bs
-  bytes_long = omega arith
-
   low : j < 64
   low = slot_low slots 0 (omega arith)
 
-  the_entry : entry_at s alone j ≡ record { cost = x; plan = take s bs; split = 0; mask = 0 }
+  the_entry : entry_at s alone j ≡ record { cost = x; plan = bs; split = 0; mask = 0 }
   the_entry =
       λ t. record {
         cost = get_or-set_same (replicate 64 (pos 0)) j x (pos 0) (omega (arith, low, length-replicate 64 (pos 0))) t;
-        plan = row_same (replicate 4096 0) j s bs (length-replicate {A = ℕ} 4096 0) low short bytes_long t;
+        plan = row_same (replicate 4096 0) j bs (length-replicate {A = ℕ} 4096 0) low short t;
         split = get_or-replicate 64 j 0 0 low t;
         mask = get_or-replicate 64 j 0 0 low t;
       }
 
-  pub alone_entries : entries s alone ≡ record { cost = x; plan = take s bs; split = 0; mask = 0 } ∷ []
+  pub alone_entries : entries s alone ≡ record { cost = x; plan = bs; split = 0; mask = 0 } ∷ []
   alone_entries =
       ap (map (entry_at s alone)) (first_one o (omega (arith, slots.long))) ∙ ap (λ (e : Entry). e ∷ []) the_entry
 
@@ -57,12 +57,12 @@ module _ (k s : ℕ) (low-k : 1 ≤ k) (high-k : k ≤ 64) (short : s ≤ 64) (o
   alone_formed =
       record {
         costs_long = length-set (replicate 64 (pos 0)) j x ∙ length-replicate 64 (pos 0);
-        plans_long = written_long (replicate 4096 0) j s bs (length-replicate {A = ℕ} 4096 0) low short bytes_long;
+        plans_long = written_long (replicate 4096 0) j bs (length-replicate {A = ℕ} 4096 0) low short;
         splits_long = length-replicate {A = ℕ} 64 0;
         barred_long = length-replicate {A = ℕ} 64 0;
         most_low = low-k;
         most_high = high-k;
         few = low-k;
         slots = slots;
-        ascends = ascends_one s alone (record { cost = x; plan = take s bs; split = 0; mask = 0 }) alone_entries;
+        ascends = ascends_one s alone (record { cost = x; plan = bs; split = 0; mask = 0 }) alone_entries;
       }

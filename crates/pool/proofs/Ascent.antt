@@ -9,7 +9,7 @@ use lib.Dec.{T, eqb, eqb→eq}
 use lib.IntN.{ℤ, pos}
 use lib.Signed.{lt_z, ◌≤ℤ◌, ◌<ℤ◌, lt_z_yes, lt_z_no, ≤ℤ_refl, clash_ℤ}
 use lib.ListN.{length, get_or, take, get_or-map, length-map}
-use lib.Seq.{take_at, get_or-take}
+use lib.Seq.{take_at}
 use Rattle.std.specs.List.Sorted.{IsPartitionedBy}
 use Rattle.model.specs.Lists.{insert}
 use Rattle.model.specs.Order.{lower}
@@ -128,33 +128,31 @@ to_end e (d ∷ ds) h =
     ap (λ (t : Bool). elim t as (λ (_ : Bool). List Entry) [ true ↦ e ∷ (d ∷ ds) | false ↦ d ∷ insert earlier_entry e ds ]) (dear_later e d h.0)
     ∙ ap (λ (r : List Entry). d ∷ r) (to_end e ds h.1)
 
-module _ (s k : ℕ) (p : Pool) (low : 1 ≤ k) (long : length (take p.count p.order) ≡ p.count) (ascends : Ascending (costs_of p)) (e : Entry)
-    (beyond : beyond_of p.count k e.cost p.costs p.order ≡ true) where
-  tests : T (eqb p.count k) × T (lt_z (get_or p.costs (get_or p.order (k - 1) 0) (pos 0)) e.cost)
-  tests = and_T (eqb p.count k) (lt_z (get_or p.costs (get_or p.order (k - 1) 0) (pos 0)) e.cost) (true-T beyond)
-
-  all : p.count ≡ k
-  all = eqb→eq p.count k tests.0
+module _ (s k : ℕ) (p : Pool) (low : 1 ≤ k) (ascends : Ascending (costs_of p)) (e : Entry)
+    (beyond : beyond_of (length (take p.count p.order)) k e.cost p.costs (take p.count p.order) ≡ true) where
+  abbrev waiting : List ℕ
+  waiting = take p.count p.order
 
   abbrev at : ℕ → ℤ
   at j = get_or p.costs j (pos 0)
 
-  last_is : get_or (costs_of p) (k - 1) (at 0) ≡ at (get_or p.order (k - 1) 0)
-  last_is =
-      get_or-map at (take p.count p.order) (k - 1) 0
-      ∙ ap at (get_or-take p.count p.order (k - 1) 0 (omega (arith, all)))
+  tests : T (eqb (length waiting) k) × T (lt_z (at (get_or waiting (k - 1) 0)) e.cost)
+  tests = and_T (eqb (length waiting) k) (lt_z (at (get_or waiting (k - 1) 0)) e.cost) (true-T beyond)
+
+  all : length waiting ≡ k
+  all = eqb→eq (length waiting) k tests.0
 
   below : Every (λ (y : ℤ). y <ℤ e.cost) (costs (entries s p))
   below =
-      let dear : get_or (costs_of p) (k - 1) (at 0) <ℤ e.cost = rw last_is (lt_z_yes tests.1) in
+      let dear : get_or (costs_of p) (k - 1) (at 0) <ℤ e.cost = rw (get_or-map at waiting (k - 1) 0) (lt_z_yes tests.1) in
       subst (Every (λ (y : ℤ). y <ℤ e.cost)) (sym (costs_are s p))
       (every_imp (λ (y : ℤ) (l : y ≤ℤ get_or (costs_of p) (k - 1) (at 0)). omega (ints, lt_in, l, dear)) (costs_of p)
-      (last-most (costs_of p) (k - 1) (at 0) ascends (omega (arith, all, long, length-map (take p.count p.order) at))))
+      (last-most (costs_of p) (k - 1) (at 0) ascends (omega (arith, all, length-map waiting at))))
 
   pub not_kept : entries s p ≡ take k (insert earlier_entry e (entries s p))
   not_kept =
       sym (ap (take k) (to_end e (entries s p) below)
-      ∙ take_at (entries s p) (e ∷ []) k (length-map (take p.count p.order) (entry_at s p) ∙ long ∙ all))
+      ∙ take_at (entries s p) (e ∷ []) k (length-map waiting (entry_at s p) ∙ all))
 
 -- ---- the slots that cost less
 

@@ -5,12 +5,11 @@ use mathlib.Core.Bool.{Bool, true, false, cond}
 use mathlib.Core.Logic.{◌⊎◌, inl, inr}
 use mathlib.Core.List.{List, [], ◌∷◌, ◌++◌, map, append_assoc, append-nil, map-append}
 use Prim.Native.Nat.{ℕ, zero, suc, ◌+◌, ◌*◌, ◌≤◌, ◌<◌}
-use native.Mathlib.Nat.{add-zero}
 use native.Mathlib.Numerals.{add-one}
 use native.Mathlib.Omega.{arith}
 use lib.IntN.{ℤ, pos}
-use lib.ListN.{length, get_or, set, take, drop, length-append, length-map, length-set, drop_of_length-le}
-use lib.Seq.{drop-cons, take-suc, take_all, take_at, drop_at, length-take-le, get_or-set_same, get_or-set_other, paste}
+use lib.ListN.{length, get_or, set, take, drop, length-append, length-map, length-set}
+use lib.Seq.{take-suc, take_all, take_at, drop_at, length-take-le, get_or-set_same, get_or-set_other, paste}
 use Rattle.model.specs.Lists.{insert}
 use Rattle.laws.specs.Members.{In, Every, every_in, ++-in, map_same}
 use Rattle.laws.specs.Sorting.{in_take}
@@ -32,9 +31,6 @@ module _ (test : ℕ → Bool) where
       go true h = omega arith
       go false h = omega arith
 
-  pub yes_none : (xs : List ℕ) (i : ℕ) → length xs ≤ i → i + first_yes test (drop i xs) ≡ i
-  yes_none xs i h = rw (drop_of_length-le xs {i = i} h) (add-zero i)
-
   -- numbers before it that do not pass are left out
   pub yes_skip : (xs : List ℕ) (i : ℕ) → i ≤ length xs → Every (λ (x : ℕ). test x ≡ false) (take i xs) → first_yes test xs ≡ i + first_yes test
       (drop i xs)
@@ -42,14 +38,6 @@ module _ (test : ℕ → Bool) where
   yes_skip [] (suc i) l h = absurd (omega arith)
   yes_skip (x ∷ xs) zero l h = omega arith
   yes_skip (x ∷ xs) (suc i) l h = ap (λ (t : Bool). cond t 0 (suc (first_yes test xs))) h.0 ∙ omega (arith, yes_skip xs i (omega arith) h.1)
-
-  -- the search for it, one number at a time
-  module _ (xs : List ℕ) (i : ℕ) (h : i < length xs) where
-    pub yes_here : test (get_or xs i 0) ≡ true → i ≡ i + first_yes test (drop i xs)
-    yes_here e = rw (drop-cons xs i 0 h, e) (omega arith)
-
-    pub yes_later : test (get_or xs i 0) ≡ false → i + first_yes test (drop i xs) ≡ i + 1 + first_yes test (drop (i + 1) xs)
-    yes_later e = rw (drop-cons xs i 0 h, e, add-one i) (omega arith)
 
 -- insertion puts the element there
 insert_at_lem : {A : Type 0} (lt : A → A → Bool) (f : ℕ → A) (a : A) (xs : List ℕ) →
@@ -76,13 +64,13 @@ kept a b t e n k h l (inl z) =
 kept a b t e n k h l (inr z) =
     ap (take k) (sym (append_assoc a (e ∷ b) t)) ∙ take_at (a ++ (e ∷ b)) t k (simp length-append (omega arith))
 
--- the pool with the new entry, whose plan is the first s of the bytes, in the slot of place n, which moves up to place i
-abbrev pub filled : Pool → ℕ → ℤ → List ℕ → ℕ → ℕ → ℕ → ℕ → Pool
-filled p s x bytes split mask i n =
+-- the pool with the new entry in the slot of place n, which moves up to place i
+abbrev pub filled : Pool → ℤ → List ℕ → ℕ → ℕ → ℕ → ℕ → Pool
+filled p x bs split mask i n =
     let j = get_or p.order n 0 in
     record {
       costs = set p.costs j x;
-      plans = paste p.plans (j * 64) bytes s;
+      plans = paste p.plans (j * 64) bs (length bs);
       splits = set p.splits j split;
       barred = set p.barred j mask;
       order = moved_up i n p.order;
@@ -97,15 +85,15 @@ waiting_long p ok = length-take-le p.count p.order (omega (arith, ok.few, ok.mos
 pub entries_long : (s : ℕ) (p : Pool) → Formed p → length (entries s p) ≡ p.count
 entries_long s p ok = length-map (take p.count p.order) (entry_at s p) ∙ waiting_long p ok
 
-module _ (p : Pool) (ok : Formed p) (s : ℕ) (short : s ≤ 64) (x : ℤ) (bytes : List ℕ) (long : length bytes ≡ 64) (split mask : ℕ) where
+module _ (p : Pool) (ok : Formed p) (x : ℤ) (bs : List ℕ) (short : length bs ≤ 64) (split mask : ℕ) where
+  abbrev s : ℕ
+  s = length bs
+
   abbrev k : ℕ
   k = p.most
 
   abbrev e : Entry
-  e = record { cost = x; plan = take s bytes; split = split; mask = mask }
-
-  bytes_long : s ≤ length bytes
-  bytes_long = omega arith
+  e = record { cost = x; plan = bs; split = split; mask = mask }
 
   abbrev o : List ℕ
   o = p.order
@@ -139,7 +127,7 @@ module _ (p : Pool) (ok : Formed p) (s : ℕ) (short : s ≤ 64) (x : ℤ) (byte
       j = get_or o n 0
 
       abbrev q : Pool
-      q = filled p s x bytes split mask i n
+      q = filled p x bs split mask i n
 
       inside : n < length o
       inside = omega (arith, spare.0, ok.most_high, ok.slots.long)
@@ -159,7 +147,7 @@ module _ (p : Pool) (ok : Formed p) (s : ℕ) (short : s ≤ 64) (x : ℤ) (byte
       entry_new =
           λ t. record {
             cost = get_or-set_same p.costs j e.cost (pos 0) (omega (arith, low, ok.costs_long)) t;
-            plan = row_same p.plans j s bytes ok.plans_long low short bytes_long t;
+            plan = row_same p.plans j bs ok.plans_long low short t;
             split = get_or-set_same p.splits j e.split 0 (omega (arith, low, ok.splits_long)) t;
             mask = get_or-set_same p.barred j e.mask 0 (omega (arith, low, ok.barred_long)) t;
           }
@@ -168,7 +156,7 @@ module _ (p : Pool) (ok : Formed p) (s : ℕ) (short : s ≤ 64) (x : ℤ) (byte
       entry_old z h d =
           λ t. record {
             cost = get_or-set_other p.costs j z e.cost (pos 0) d t;
-            plan = row_other p.plans j s bytes ok.plans_long low short bytes_long z h d t;
+            plan = row_other p.plans j bs ok.plans_long low short z h d t;
             split = get_or-set_other p.splits j z e.split 0 d t;
             mask = get_or-set_other p.barred j z e.mask 0 d t;
           }
@@ -222,7 +210,7 @@ module _ (p : Pool) (ok : Formed p) (s : ℕ) (short : s ≤ 64) (x : ℤ) (byte
       filled_formed =
           record {
             costs_long = length-set p.costs j e.cost ∙ ok.costs_long;
-            plans_long = written_long p.plans j s bytes ok.plans_long low short bytes_long;
+            plans_long = written_long p.plans j bs ok.plans_long low short;
             splits_long = length-set p.splits j e.split ∙ ok.splits_long;
             barred_long = length-set p.barred j e.mask ∙ ok.barred_long;
             most_low = ok.most_low;
@@ -236,6 +224,6 @@ module _ (p : Pool) (ok : Formed p) (s : ℕ) (short : s ≤ 64) (x : ℤ) (byte
       filled_inserted = record { formed = filled_formed; same-most = refl; waits = filled_entries }
 
 -- as many wait as may, and it costs more than the last
-pub beyond_kept : (p : Pool) (s : ℕ) (e : Entry) → Formed p → beyond_of p.count p.most e.cost p.costs p.order ≡ true → Inserted s e p p
+pub beyond_kept : (p : Pool) (s : ℕ) (e : Entry) → Formed p → beyond_of (length (take p.count p.order)) p.most e.cost p.costs (take p.count p.order) ≡ true → Inserted s e p p
 beyond_kept p s e ok h =
-    record { formed = ok; same-most = refl; waits = not_kept s p.most p ok.most_low (waiting_long p ok) ok.ascends e h }
+    record { formed = ok; same-most = refl; waits = not_kept s p.most p ok.most_low ok.ascends e h }

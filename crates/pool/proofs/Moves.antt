@@ -7,12 +7,6 @@ use Prim.Native.Nat.{ℕ, suc, ◌+◌, ◌-◌, ◌≤◌, ◌<◌}
 use native.Mathlib.Nat.{zero-add}
 use native.Mathlib.Numerals.{add-one}
 use native.Mathlib.Omega.{arith}
-use mathlib.Core.Bool.{Bool}
-use lib.IntN.{ℤ}
-use lib.Signed.{lt_z}
-use mir.Syntax.{w64}
-use mir.Val.{SFits, to_z, of_z}
-use Rattle.std.proofs.lemmas.Int.{to_z-of_z}
 use lib.ListN.{length, get_or, take, drop, length-append, length-drop, take-append-drop}
 use lib.Seq.{drop-cons, split_at, drop-drop, take-add, take_at, length-take-le, ext_get_or}
 use Rattle.model.specs.Lists.{up_from}
@@ -20,11 +14,6 @@ use Rattle.laws.specs.Joined.{up_from_long, up_from_at}
 use Rattle.laws.specs.Members.{In, every_in, in_every, in_++, ++-in, Apart, up_from_in, up_from_rising}
 use Rattle.pool.specs.Entries.{Slots, moved_up, moved_back}
 use Rattle.pool.proofs.Lists.{at_in, rising_apart}
-
--- ---- costs as the code compares them
-
-pub read_less : (x y : ℤ) (t : Bool) → SFits w64 x → SFits w64 y → lt_z (to_z w64 (of_z w64 x)) (to_z w64 (of_z w64 y)) ≡ t → lt_z x y ≡ t
-read_less x y t f g h = rw (to_z-of_z w64 x f, to_z-of_z w64 y g) at h
 
 -- ---- lists of the same elements
 

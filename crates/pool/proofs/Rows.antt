@@ -7,7 +7,7 @@ use Prim.Native.Nat.{ℕ, ◌+◌, ◌*◌, ◌-◌, ◌≤◌, ◌<◌}
 use native.Mathlib.Decide.{dec_lt}
 use native.Mathlib.Omega.{arith}
 use lib.ListN.{length, get_or, take, drop, length-drop, get_or-append}
-use lib.Seq.{drop_at, take_at, length-take-le, length-paste, length_paste_head, get_or-take, get_or-drop, ext_get_or, paste}
+use lib.Seq.{drop_at, take_at, take_all, length-take-le, length-paste, length_paste_head, get_or-take, get_or-drop, ext_get_or, paste}
 use Rattle.pool.specs.Entries.{row}
 use Rattle.laws.specs.Shift.{front_at}
 use Rattle.pool.proofs.Lists.{after_front}
@@ -20,7 +20,10 @@ row_at s plans j i h = get_or-take s (drop (j * 64) plans) i 0 h ∙ get_or-drop
 
 -- ---- one row written
 
-module _ (plans : List ℕ) (j s : ℕ) (bs : List ℕ) (long : length plans ≡ 4096) (low : j < 64) (short : s ≤ 64) (all : s ≤ length bs) where
+module _ (plans : List ℕ) (j : ℕ) (bs : List ℕ) (long : length plans ≡ 4096) (low : j < 64) (short : length bs ≤ 64) where
+  abbrev s : ℕ
+  s = length bs
+
   abbrev written : List ℕ
   written = paste plans (j * 64) bs s
 
@@ -41,12 +44,13 @@ module _ (plans : List ℕ) (j s : ℕ) (bs : List ℕ) (long : length plans ≡
       (after_front (take (j * 64) plans ++ take s bs) (drop (j * 64 + s) plans) (j * 64 + s) (m - (j * 64 + s)) 0 head_long
       ∙ get_or-drop (j * 64 + s) plans (m - (j * 64 + s)) 0)
 
-  pub row_same : row s written j ≡ take s bs
+  pub row_same : row s written j ≡ bs
   row_same =
       ap (take s)
       (ap (drop (j * 64)) (append_assoc (take (j * 64) plans) (take s bs) (drop (j * 64 + s) plans))
       ∙ drop_at (take (j * 64) plans) (take s bs ++ drop (j * 64 + s) plans) (j * 64) (length-take-le (j * 64) plans (omega arith)))
-      ∙ take_at (take s bs) (drop (j * 64 + s) plans) s (length-take-le s bs all)
+      ∙ take_at (take s bs) (drop (j * 64 + s) plans) s (length-take-le s bs (omega arith))
+      ∙ take_all s bs (omega arith)
 
   pub row_other : (k : ℕ) → k < 64 → (k ≡ j → ⊥) → row s written k ≡ row s plans k
   row_other k h d =

@@ -7,9 +7,8 @@ use mir.Val.{to_z, of_z}
 use Rattle.std.proofs.Common.{rules}
 use Rattle.accepted.specs.Shape.{alive_has}
 use Rattle.engine.proofs.Joins.{few}
-use Rattle.engine.proofs.Parts.{part_long}
 use Rattle.engine.proofs.Ranking.{first-rights}
-use Rattle.engine.proofs.Turns.{turns_start, turns_empty, turns_end, some, part_room, taken_right, listed_split, listed_last}
+use Rattle.engine.proofs.Turns.{turns_start, turns_empty, turns_end, some, part_size, taken_right, listed_split, listed_last}
 use Rattle.engine.proofs.search.Goals as goal
 use Rattle.engine.proofs.search.Goals.{then-j-k, else-j-k}
 
@@ -30,8 +29,7 @@ take_first-e-requires c =
     let t = c.loop-j.invariant in (
       t.formed,
       some known t c.if-pool-eq0.false c.loop-j-test.true c.requires.2,
-      few known,
-      part_long c.loop-j.plans (c.loop-j.j * c.args.z.s) c.args.z.s _ refl (part_room known t c.if-pool-eq0.false c.loop-j-test.true c.requires.2),
+      omega (arith, part_size known t c.if-pool-eq0.false c.loop-j-test.true c.requires.2, few known, known.sizes.s_is),
     )
 
 pub split-requires : goal.split-requires

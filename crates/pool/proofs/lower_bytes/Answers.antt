@@ -1,55 +1,38 @@
--- The bytes at the first place where the plans differ decide.
 -- Assumes nothing.
-use mathlib.Core.Path.{◌≡◌, sym, ap₂, ◌∙◌}
-use mathlib.Core.Bool.{false}
-use mathlib.Core.List.{List}
-use Prim.Native.Nat.{ℕ, ◌+◌, ◌*◌, ◌<◌}
+use mathlib.Core.Path.{◌≡◌, refl, sym, ap, ◌∙◌}
+use mathlib.Core.List.{List, [], ◌∷◌}
+use Prim.Native.Nat.{ℕ, ◌+◌, ◌-◌, ◌*◌, ◌<◌}
+use native.Mathlib.Decide.{dec_lt}
 use native.Mathlib.Omega.{arith}
-use lib.Dec.{ltb}
-use lib.ListN.{length, get_or, take}
-use lib.Seq.{length-take-le, get_or-take}
-use Rattle.model.specs.Order.{lower, first_difference}
-use Rattle.laws.proofs.Difference.{first-swap, lower-first, lower-end}
-use Rattle.pool.specs.Entries.{row}
-use Rattle.pool.proofs.Rows.{row_long, row_at}
+use borrow.Author.Tests.{lt-ltb, le-ltb, eq-eqb, ne_eqb}
+use lib.ListN.{length, take, drop}
+use Rattle.std.specs.Cmp.{nat_cmp_is}
+use Rattle.std.specs.Cmp.Lexicographic.{slice_cmp}
+use Rattle.std.specs.Ordering.{is_lt, nat_cmp}
+use Rattle.std.proofs.Common.{Less, Equal, Greater}
+use Rattle.model.specs.Order.{lower}
+use Rattle.pool.proofs.Rows.{row_long}
 use Rattle.pool.proofs.lower_bytes.Goals as goal
-use Rattle.pool.proofs.lower_bytes.Goals.{Start}
 
--- the plan, and the row that it is compared with
-module _ (s : goal.Start) where
-  abbrev plan : List ℕ
-  plan = take s.args.s s.args.bytes.now
-
-  plan_long : length plan ≡ s.args.s
-  plan_long = length-take-le s.args.s s.args.bytes.now (omega (arith, s.requires.2, s.requires.3))
-
-  abbrev r : List ℕ
-  r = row s.args.s s.args.plans.now s.args.j
-
-  r_long : length r ≡ s.args.s
-  r_long = row_long s.args.s s.args.plans.now s.args.j s.requires.0 s.requires.1 s.requires.2
-
-  -- the place that the call gives
-  module _ (i : ℕ) (is : i ≡ first_difference r plan) where
-    first : first_difference plan r ≡ i
-    first = first-swap plan r ∙ sym is
-
-    at-end : i ≡ s.args.s → false ≡ lower plan r
-    at-end e = sym (lower-end plan r (plan_long ∙ sym r_long) (first ∙ e ∙ sym plan_long))
-
-    decides : i < s.args.s → ltb (get_or s.args.bytes.now i 0) (get_or s.args.plans.now (s.args.j * 64 + i) 0) ≡ lower plan r
-    decides h =
-        sym
-        (lower-first 0 plan r (plan_long ∙ sym r_long)
-        ∙ rw first
-        (ap₂ ltb (get_or-take s.args.s s.args.bytes.now i 0 h) (row_at s.args.s s.args.plans.now s.args.j i h)))
-
-pub returns-then-i-s : goal.returns-then-i-s
-returns-then-i-s c =
-    let d = c in
-    at-end (goal.at.returns-then-i-s d).Start d.first_difference-i.result d.first_difference-i.ensures.0 c.if-i-s.true
+-- of two runs of the same length the order of slices is that of plans
+ordered : (xs ys : List ℕ) → length xs ≡ length ys → is_lt (slice_cmp nat_cmp xs ys) ≡ lower xs ys
+ordered [] [] e = refl
+ordered [] (y ∷ ys) e = absurd (omega arith)
+ordered (x ∷ xs) [] e = absurd (omega arith)
+ordered (x ∷ xs) (y ∷ ys) e = go (dec_lt x y) (dec_lt y x) (ordered xs ys (omega arith))
+  where
+    go : Dec (x < y) → Dec (y < x) → is_lt (slice_cmp nat_cmp xs ys) ≡ lower xs ys → is_lt (slice_cmp nat_cmp (x ∷ xs) (y ∷ ys)) ≡ lower (x ∷ xs) (y ∷ ys)
+    go (yes l) g r = rw (sym (nat_cmp_is x y Less l), lt-ltb x y l)
+    go (no n) (yes g) r = rw (sym (nat_cmp_is x y Greater g), le-ltb x y (omega arith), ne_eqb x y (λ h. omega arith))
+    go (no n) (no m) r =
+        let h : x ≡ y = omega arith in
+        rw (sym (nat_cmp_is x y Equal h), le-ltb x y (omega arith), eq-eqb x y h) r
 
 pub returns : goal.returns
 returns c =
-    let d = c in
-    decides (goal.at.returns d).Start d.first_difference-i.result d.first_difference-i.ensures.0 (omega arith)
+    let bs = c.args.plan.now in
+    let at = c.args.j * 64 in
+    let size : at + length bs - at ≡ length bs = omega arith in
+    c.is_lt.ensures
+    ∙ ap is_lt (c.cmp.ensures ∙ ap (λ (n : ℕ). slice_cmp nat_cmp bs (take n (drop at c.args.plans.now))) size)
+    ∙ ordered bs _ (sym (row_long (length bs) c.args.plans.now c.args.j c.told-plans c.requires.0 c.requires.1))
