@@ -44,12 +44,6 @@ pub fn count(b: &[i32], z: Sizes, p: usize) -> usize
     book::size_at(b, 4 + z.h + p)
 }
 
-pub fn zeros() -> [usize; 192]
-    ensures { length result ≡ 192 }
-{
-    [0; 192]
-}
-
 // Fills x for each state p: at p its first line, at 64 + p the first state of the next stage, at 128 + p the stages still to come. Three parts of one array
 // of numbers and no array of structs: the definition IndexTo, which the contracts of every pass rest on, has it so.
 pub fn fill_index(b: &[i32], z: Sizes, x: &mut [usize; 192])

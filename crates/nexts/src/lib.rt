@@ -43,12 +43,6 @@ fn fill_state(b: &[i32], z: Sizes, x: &[usize; 192], p: usize, off: u8, t: &mut 
     }
 }
 
-pub fn no_sets() -> [u64; 512]
-    ensures { length result ≡ 512 }
-{
-    [0; 512]
-}
-
 // Fills t: at 8 × p + c the set of the next states of action c of state p, if a policy can take it; `off` has the others.
 // Rows of eight in one array: the definition NextsOf has it so.
 pub fn fill_sets(b: &[i32], z: Sizes, x: &[usize; 192], off: &[u8; 64], t: &mut [u64; 512])
