@@ -8,6 +8,9 @@ ghost use Rattle.page_lines.specs.Put.{Put};
 // One byte more than the longest record has.
 const MOST_READ: usize = 21309;
 
+// The words of the longest book.
+const MOST_BOOK: usize = 4172;
+
 // Where a program puts what it reads. A shorter one would cut off the byte by which a record is too long.
 pub fn buffer() -> [u8; MOST_READ]
     ensures { length result ≡ suc most_record }
@@ -19,12 +22,12 @@ pub fn buffer() -> [u8; MOST_READ]
 pub fn print_record(r: &[u8], out: &mut [u8]) -> usize
     ensures { Put most_page (record_page r.now) out.old out.new result }
 {
-    let mut words = record::no_book();
     if let Err(q) = accept::accept(r) {
-        return page::put_page(Err(q), &words[..0], 0, out);
+        return page::put_page(Err(q), &[], 0, out);
     }
+    let mut words = [0; MOST_BOOK];
     record::read_book(r, &mut words);
-    let w = record::carried_length(r);
+    let book = &words[..record::carried_length(r)];
     let k = record::carried_k(r);
-    page::put_page(Ok(()), &words[..w], k, out)
+    page::put_page(Ok(()), book, k, out)
 }

@@ -23,8 +23,7 @@ pub fn file_record(input: &[u8], out: &mut [u8]) -> usize
         return 0;
     }
     let q = input::read(input);
-    let words = q.words;
-    match write::write(&words[..q.n], q.k, out) {
+    match write::write(&q.words[..q.n], q.k, out) {
         Ok(n) => n,
         Err(no) => page_lines::put_refused(out, no),
     }

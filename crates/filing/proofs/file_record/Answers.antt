@@ -6,6 +6,7 @@ use Prim.Native.Nat.{ℕ, zero, suc, ◌≤◌}
 use native.Mathlib.Omega.{arith}
 use borrow.Author.Tests.{le-leb}
 use lib.ListN.{length, take}
+use Rattle.refusal.specs.Refusal.{some_number}
 use Rattle.model.specs.Model.{Words}
 use Rattle.model.specs.Questions.{first_no, and_then}
 use Rattle.model.specs.Record.{asked_number, record_bytes}
@@ -39,11 +40,11 @@ module _ (ws : Words) (k : ℕ) (out : List ℕ) (h : most_record ≤ length out
   unfolding write_record
   refused {no} e i o a = put_refused (record_bytes ws k) h no (e ∙ number_is) i (rw (o, ← leaves e i _ out) at a)
 
-  written : {no n : ℕ} {out' : List ℕ} → no ≡ write_number ws k (length out) → no ≡ 0 → n ≡ write_length ws k (length out) → out' ≡ write_record ws k out
+  written : {n : ℕ} {out' : List ℕ} → 0 ≡ write_number ws k (length out) → n ≡ write_length ws k (length out) → out' ≡ write_record ws k out
       → Put most_record (or_refused (asked_number ws k) (record_bytes ws k)) out out' n
   unfolding write_length write_record
-  written e z l o =
-      let ok = sym e ∙ z in
+  written e l o =
+      let ok = sym e in
       put_due (record_bytes ws k) h (sym number_is ∙ ok) (l ∙ sym (gives ok 0 refl)) (o ∙ sym (gives ok out refl))
 
 pub returns-then-out-lt-MOST_RECORD : goal.returns-then-out-lt-MOST_RECORD
@@ -56,10 +57,10 @@ of_input : {input out out' : List ℕ} {q : Input} {r : ℕ} → Read input q
 unfolding filed
 of_input h = put_same h.number (λ z. ap₂ record_bytes (h.words z) (h.count z))
 
-pub returns-then-w-ne0 : goal.returns-then-w-ne0
-returns-then-w-ne0 c =
-    of_input c.read-q.ensures (refused _ _ _ (omega arith) c.write-w.ensures.0 c.if-w-ne0.true c.write-w.ensures.2 c.put_refused.ensures)
+pub returns-in-Ok : goal.returns-in-Ok
+returns-in-Ok c = of_input c.read-q.ensures (written _ _ _ (omega arith) c.in-Ok.ensures.number c.in-Ok.ensures.long c.in-Ok.ensures.record)
 
-pub returns : goal.returns
-returns c =
-    of_input c.read-q.ensures (written _ _ _ (omega arith) c.write-w.ensures.0 c.if-w-ne0.false c.write-w.ensures.1 c.write-w.ensures.2)
+pub returns-in-Err : goal.returns-in-Err
+returns-in-Err c =
+    of_input c.read-q.ensures
+    (refused _ _ _ (omega arith) c.in-Err.ensures.number (some_number c.in-Err.no) c.in-Err.ensures.record c.put_refused.ensures)
