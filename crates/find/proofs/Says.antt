@@ -17,6 +17,7 @@ use Rattle.model.specs.Order.{ranking}
 use Rattle.model.specs.Standing.{is_rank, place_in, last_of, beside_last, standing}
 use Rattle.laws.specs.Sorting.{at_in}
 use Rattle.laws.specs.Entries.{some_at, get_d_at}
+use Rattle.accepted.specs.Facts.{accepted}
 use Rattle.accepted.specs.Demands.{policy-bytes, in_list, cost-fits}
 use Rattle.record.specs.declared.Listing.{Listing}
 use Rattle.record.specs.Listed.{Listed}
@@ -27,6 +28,9 @@ module _ (ws : Words) (ok : book_number ws ≡ 0) (k : ℕ) (l : Listing) (h : L
   -- a listed policy has as many bytes as the plan
   states : l.s ≡ length bs
   states = h.states ∙ sym ((policy-bytes ws ok bs).0 t).long
+
+  pub plan_short : length bs ≤ 64
+  plan_short = omega (arith, ((policy-bytes ws ok bs).0 t).long, (accepted ws ok).sizes.s_high)
 
   pub plans_fit : l.n * length bs ≤ length l.plans
   plans_fit = rw (← states) h.held.plans_long

@@ -1,7 +1,7 @@
 // Request 2.8, "Where is my plan?": the rank of a policy in the list of a book and K, or why it is not listed.
 #![tactic(auto)]
 
-ghost use Rattle.std.specs.Prelude.{◌≡◌, ◌+◌, ◌*◌, ◌≤◌, nat_abs, length, take, drop, IfOk};
+ghost use Rattle.std.specs.Prelude.{◌≡◌, ◌+◌, ◌*◌, ◌≤◌, ◌<◌, nat_abs, length, take, drop, IfOk, MatchOption};
 ghost use Rattle.model.specs.Standing.{place_in, beside_last, answer_number, answer_value, standing};
 ghost use Rattle.model.specs.Calls.{find_number};
 ghost use Rattle.record.specs.Parts.{parts};
@@ -50,18 +50,13 @@ impl Standing {
 // Ranks are counted from 1.
 const FIRST_RANK: u8 = 1;
 
-// How many of the n listed policies stand above a plan: n where it is not listed.
-fn place_in(plans: &[u8], n: usize, plan: &[u8]) -> usize
+// How many of the n listed policies stand above a plan, if it is listed.
+fn place_in(plans: &[u8], n: usize, plan: &[u8]) -> Option<usize>
     requires { n * length plan.now ≤ length plans.now }
-    ensures { result ≡ place_in (parts plans.now (length plan.now) 0 n) plan.now }
+    ensures { MatchOption result (place_in (parts plans.now (length plan.now) 0 n) plan.now ≡ n) (λ j. (j ≡ place_in (parts plans.now (length plan.now) 0 n) plan.now) × (j < n)) }
 {
     let s = plan.len();
-    for i in 0..n {
-        if bytes_io::same_bytes(plans, i * s, plan, s) {
-            return i;
-        }
-    }
-    n
+    (0..n).find(|i| bytes_io::same_bytes(plans, *i * s, plan, s))
 }
 
 // Of a policy that is not listed, beside the last one that is: its bytes begin at index `at`, and it costs `last`.
@@ -81,17 +76,22 @@ pub fn find(b: &[i32], k: usize, plan: &[u8]) -> Result<Standing, Refusal>
     ensures answer { IfOk result (λ a. says a ≡ standing b.now k plan.now) }
 {
     asked::counted_number(b, k)?;
-    let mut costs = listing::no_costs();
-    let mut plans = listing::no_plans();
+    let mut costs = [0; 64];
+    let mut plans = [0; 4096];
     let n = listing::fill(b, k, &mut costs, &mut plans);
     if n == 0 {
         return Err(Refusal::NoPlan);
     }
     let z = lines::sizes(b);
     let cost = policy::judge(b, z, plan).ok_or(Refusal::Plan)?;
-    let j = place_in(&plans, n, plan);
-    if j < n {
+    if let Some(j) = place_in(&plans, n, plan) {
         return Ok(Standing::Rank(j as u8 + FIRST_RANK));
     }
-    Ok(beside_last(&plans, (n - 1) * plan.len(), costs[n - 1], plan, cost))
+    Ok(beside_last(
+        &plans,
+        (n - 1) * plan.len(),
+        costs[n - 1],
+        plan,
+        cost,
+    ))
 }

@@ -16,9 +16,6 @@ use Rattle.record.specs.Passed.{AcceptedRecord, head_passed, accept_says}
 use Rattle.page_lines.specs.Put.{put_same}
 use Rattle.filed_page.proofs.print_record.Goals as goal
 
-pub put_page-requires : goal.put_page-requires
-put_page-requires c z = absurd (some_number c.in-Err.q z)
-
 pub returns-in-Err : goal.returns-in-Err
 unfolding record_page
 returns-in-Err c =

@@ -1,79 +1,51 @@
+-- The first part that is the plan.
 -- Assumes nothing.
-use mathlib.Core.Path.{◌≡◌, sym, ap, ◌∙◌}
-use mathlib.Core.Bool.{true, false}
-use mathlib.Core.List.{List, ◌∷◌}
-use Prim.Native.Nat.{ℕ, suc, ◌+◌, ◌-◌, ◌*◌}
-use native.Mathlib.Nat.{zero-add}
+use mathlib.Core.Path.{◌≡◌, refl, sym, ap, ◌∙◌}
+use mathlib.Core.Bool.{Bool, true, false}
+use mathlib.Core.List.{List}
+use Prim.Native.Nat.{ℕ, zero, suc, ◌+◌, ◌*◌, ◌≤◌, ◌<◌}
 use native.Mathlib.Omega.{arith}
 use lib.ListN.{length, take, drop}
 use lib.Seq.{take_all}
+use Rattle.std.specs.Prelude.{Option, Some, None, MatchOption}
+use Rattle.std.proofs.Common.{rules}
+use Rattle.std.proofs.lemmas.Iterator.{first_from_Range}
+use borrow.Author.Tests.{tests}
 use Rattle.model.specs.Lists.{same}
 use Rattle.model.specs.Policy.{Policy}
 use Rattle.model.specs.Standing.{place_in}
-use Rattle.record.specs.Parts.{parts, parts-left, part-inside}
+use Rattle.record.specs.Parts.{parts}
 use Rattle.find.proofs.place_in.Goals as goal
-use Rattle.find.proofs.place_in.Goals.{After-same_bytes}
 
-module _ (ps : List Policy) (p bs : Policy) where
-  found : same p bs ≡ true → place_in (p ∷ ps) bs ≡ 0
-  found e = rw e
+-- the parts from i on, by whether they are the plan
+module _ (plans : List ℕ) (plan : Policy) where
+  abbrev here : ℕ → Bool
+  here i = same (take (length plan) (drop (i * length plan) plans)) (take (length plan) plan)
 
-  other : same p bs ≡ false → place_in (p ∷ ps) bs ≡ suc (place_in ps bs)
-  other e = rw e
+  here_is : (i : ℕ) → here i ≡ same (take (length plan) (drop (i * length plan) plans)) plan
+  here_is i = ap (same (take (length plan) (drop (i * length plan) plans))) (take_all (length plan) plan (omega arith))
 
-pub loop-i-init : goal.loop-i-init
-loop-i-init c =
-    let s = c in
-    let e : s.args.n - 0 ≡ s.args.n = omega arith in
-    (omega arith, rw e (sym (zero-add _)))
+  nowhere : (i n : ℕ) → ((k : ℕ) → i ≤ k → k < i + n → here k ≡ false) → place_in (parts plans (length plan) i n) plan ≡ n
+  nowhere i zero h = refl
+  nowhere i (suc n) h =
+      rw (← here_is i, h i (omega arith) (omega arith)) (ap suc (nowhere (suc i) n (λ k a b. h k (omega arith) (omega arith))))
 
-pub overflow_mul-i : goal.overflow_mul-i
-overflow_mul-i c =
-    let s = c in
-    omega (arith, part-inside c.loop-i.i s.args.n (length s.args.plan.now) (length s.args.plans.now) c.loop-i-test.true s.requires, c)
+  first : (i n d j : ℕ) → j ≡ i + d → d < n → ((k : ℕ) → i ≤ k → k < j → here k ≡ false) → here j ≡ true
+      → place_in (parts plans (length plan) i n) plan ≡ d
+  first i zero d j e l h y = absurd (omega arith)
+  first i (suc n) zero j e l h y = let m : j ≡ i = omega arith in rw (← here_is i, rw m at y) refl
+  first i (suc n) (suc d) j e l h y =
+      rw (← here_is i, h i (omega arith) (omega arith))
+      (ap suc (first (suc i) n d j (omega arith) (omega arith) (λ k a b. h k (omega arith) b) y))
 
-pub same_bytes-requires : goal.same_bytes-requires
-same_bytes-requires c =
-    let s = c in
-    (part-inside c.loop-i.i s.args.n (length s.args.plan.now) (length s.args.plans.now) c.loop-i-test.true s.requires, omega arith)
-
--- part i was compared
-module _ (c : goal.After-same_bytes) where
-  abbrev s : goal.After-same_bytes
-  s = c
-
-  abbrev i : ℕ
-  i = c.loop-i.i
-
-  abbrev part : Policy
-  part = take (length s.args.plan.now) (drop (i * length s.args.plan.now) s.args.plans.now)
-
-  abbrev later : List Policy
-  later = parts s.args.plans.now (length s.args.plan.now) (i + 1) (s.args.n - (i + 1))
-
-  compared : same part s.args.plan.now ≡ c.same_bytes.result
-  compared = ap (same part) (sym (take_all (length s.args.plan.now) s.args.plan.now (omega arith))) ∙ sym c.same_bytes.ensures
-
-  rest : place_in (parts s.args.plans.now (length s.args.plan.now) 0 s.args.n) s.args.plan.now
-      ≡ i + place_in (part ∷ later) s.args.plan.now
-  rest =
-      c.loop-i.invariant.1
-      ∙ ap (λ (ps : List Policy). i + place_in ps s.args.plan.now) (parts-left s.args.plans.now (length s.args.plan.now) i s.args.n c.loop-i-test.true)
-
-pub returns-then-same_bytes : goal.returns-then-same_bytes
-returns-then-same_bytes c =
-    let d = (goal.at.returns-then-same_bytes c).After-same_bytes in
-    omega (arith, rest d, found (later d) (part d) (s d).args.plan.now (compared d ∙ c.if-same_bytes.true))
-
-pub loop-i-preserved : goal.loop-i-preserved
-loop-i-preserved c =
-    let d = c in
-    (omega (arith, d.loop-i-test.true), omega (arith, rest (goal.at.loop-i-preserved d).After-same_bytes, other (later (goal.at.loop-i-preserved d).After-same_bytes) (part (goal.at.loop-i-preserved d).After-same_bytes) (s (goal.at.loop-i-preserved d).After-same_bytes).args.plan.now (compared (goal.at.loop-i-preserved d).After-same_bytes ∙ c.if-same_bytes.false)))
+  place_is : (n : ℕ) (r : Option ℕ)
+      → MatchOption r ((k : ℕ) → 0 ≤ k → k < n → here k ≡ false) (λ j. (0 ≤ j) × (j < n) × (here j ≡ true) × ((k : ℕ) → 0 ≤ k → k < j → here k ≡ false))
+      → MatchOption r (place_in (parts plans (length plan) 0 n) plan ≡ n) (λ j. (j ≡ place_in (parts plans (length plan) 0 n) plan) × (j < n))
+  place_is n None h = nowhere 0 n (λ k a b. h k a (omega arith))
+  place_is n (Some j) h = (sym (first 0 n j j (omega arith) h.1 h.3 h.2), h.1)
 
 pub returns : goal.returns
 returns c =
-    let l = c in
-    let s = l in
-    let e : s.args.n - l.loop-i.i ≡ 0 = omega (arith, c.loop-i-test.false) in
-    let z : l.loop-i.i ≡ s.args.n = omega (arith, c.loop-i-test.false, l.loop-i.invariant.0) in
-    omega (arith, z, l.loop-i.invariant.1, ap (λ (m : ℕ). place_in (parts s.args.plans.now (length s.args.plan.now) l.loop-i.i m) s.args.plan.now) e)
+    place_is c.args.plans.now c.args.plan.now c.args.n c.find.result
+    (first_from_Range _ _ _ _ (λ i. here c.args.plans.now c.args.plan.now i ≡ true) (λ i. here c.args.plans.now c.args.plan.now i ≡ false) c.find.ensures.ran
+    (λ x q k. search (rules, tests)) (λ x q k. search (rules, tests)))
