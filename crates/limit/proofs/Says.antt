@@ -1,17 +1,15 @@
 -- The answer by the list that stands in arrays.
 -- Assumes nothing.
-use mathlib.Core.Path.{◌≡◌, refl, sym, ap, ◌∙◌}
-use mathlib.Core.Bool.{Bool, true, false, cond}
+use mathlib.Core.Path.{◌≡◌, sym, ap, ◌∙◌}
 use Prim.Native.Nat.{ℕ, suc, ◌≤◌, ◌<◌}
 use native.Mathlib.Omega.{arith}
 use borrow.Author.Tests.{lt-ltb, le-ltb}
-use lib.Dec.{ltb}
 use lib.ListN.{length}
 use Rattle.model.specs.Lists.{first_where}
 use Rattle.model.specs.Model.{Words, state_count}
 use Rattle.model.specs.Questions.{book_number}
 use Rattle.model.specs.Order.{ranking}
-use Rattle.model.specs.Limit.{Limit, keeps_limit, kept_at, none_listed, none_in_book, above_kept, first_kept, kept_number, kept_rank}
+use Rattle.model.specs.Limit.{Limit, keeps_limit, kept_at, above_kept, first_kept}
 use Rattle.record.specs.declared.Listing.{Listing}
 use Rattle.record.specs.Listed.{Listed}
 use Rattle.record.specs.Parts.{parts}
@@ -34,14 +32,6 @@ module _ (ws : Words) (ok : book_number ws ≡ 0) (k : ℕ) (l : Listing) (h : L
   unfolding first_kept
   rank_says j e i = rw (above_is, ← e, lt-ltb j (length (ranking ws k)) (omega (arith, h.count)))
 
-  none_is : l.n ≤ above → first_kept ws k limit ≡ cond (ltb l.n k) none_in_book none_listed
+  pub none_says : l.n ≤ above → none_of l.n k ≡ first_kept ws k limit
   unfolding first_kept
-  none_is i = rw (above_is, ← h.count, le-ltb above l.n i)
-
-  -- no rank goes with such an answer
-  pub none_says : l.n ≤ above → (none_of l.n k ≡ kept_number (first_kept ws k limit)) × (0 ≡ kept_rank (first_kept ws k limit))
-  none_says i = (sym (ap kept_number (none_is i)), sym (ap kept_rank (none_is i) ∙ no_rank (ltb l.n k)))
-    where
-      no_rank : (b : Bool) → kept_rank (cond b none_in_book none_listed) ≡ 0
-      no_rank true = refl
-      no_rank false = refl
+  none_says i = rw (above_is, ← h.count, le-ltb above l.n i)

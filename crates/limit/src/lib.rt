@@ -1,7 +1,7 @@
 // Request 2.10, "At most m hill climbs": the rank of the first listed policy none of whose sample paths takes more than m marked actions.
 #![tactic(auto)]
 
-ghost use Rattle.std.specs.Prelude.{◌≡◌, ◌*◌, ◌≤◌, length, IfOk};
+ghost use Rattle.std.specs.Prelude.{◌≡◌, ◌*◌, ◌≤◌, ◌<◌, length, IfOk, MatchOption};
 ghost use Rattle.model.specs.Lists.{first_where};
 ghost use Rattle.model.specs.Model.{state_count};
 ghost use Rattle.model.specs.Limit.{limit_of, keeps_limit, first_kept, kept_number, kept_rank};
@@ -54,7 +54,7 @@ impl Kept {
 // Ranks are counted from 1.
 const FIRST_RANK: u8 = 1;
 
-// How many of the n listed policies stand above the first that keeps the limit: n where none does.
+// How many of the n listed policies stand above the first that keeps the limit, if one does.
 fn above_kept(
     b: &[i32],
     z: Sizes,
@@ -63,17 +63,12 @@ fn above_kept(
     m: usize,
     plans: &[u8],
     n: usize,
-) -> usize
+) -> Option<usize>
     requires { Indexed b.now z x.now × MarksOf b.now marks.now × (n * state_count b.now ≤ length plans.now) }
-    ensures { result ≡ first_where (keeps_limit b.now (limit_of marks.now m)) (parts plans.now (state_count b.now) 0 n) }
+    ensures { MatchOption result (first_where (keeps_limit b.now (limit_of marks.now m)) (parts plans.now (state_count b.now) 0 n) ≡ n)
+        (λ j. (j ≡ first_where (keeps_limit b.now (limit_of marks.now m)) (parts plans.now (state_count b.now) 0 n)) × (j < n)) }
 {
-    let s = z.s;
-    for i in 0..n {
-        if marks::most(b, z, x, marks, plans, i * s) <= m {
-            return i;
-        }
-    }
-    n
+    (0..n).find(|i| marks::most(b, z, x, marks, plans, *i * z.s) <= m)
 }
 
 // That none keeps the limit, where n of k policies are listed: none in the list, if it may have left some out.
@@ -94,8 +89,8 @@ pub fn limit(b: &[i32], k: usize, marks: &[u8], m: usize) -> Result<Kept, Refusa
     asked::counted_number(b, k)?;
     let z = lines::sizes(b);
     let x = index::index(b, z);
-    let mut costs = listing::no_costs();
-    let mut plans = listing::no_plans();
+    let mut costs = [0; 64];
+    let mut plans = [0; 4096];
     let n = listing::fill_by(b, z, &x, k, &mut costs, &mut plans);
     if n == 0 {
         return Err(Refusal::NoPlan);
@@ -103,8 +98,7 @@ pub fn limit(b: &[i32], k: usize, marks: &[u8], m: usize) -> Result<Kept, Refusa
     if !marks::allowed(b, z, marks, m) {
         return Err(Refusal::Marks);
     }
-    let j = above_kept(b, z, &x, marks, m, &plans, n);
-    if j < n {
+    if let Some(j) = above_kept(b, z, &x, marks, m, &plans, n) {
         return Ok(Kept::Rank(j as u8 + FIRST_RANK));
     }
     Ok(none_kept(n, k))

@@ -1,108 +1,69 @@
+-- The first part that keeps the limit.
 -- Assumes nothing.
-use mathlib.Core.Path.{◌≡◌, sym, ap, ◌∙◌}
-use mathlib.Core.Bool.{true, false}
-use mathlib.Core.List.{List, ◌∷◌}
-use Prim.Native.Nat.{ℕ, suc, ◌+◌, ◌-◌, ◌*◌, ◌<◌}
-use native.Mathlib.Nat.{zero-add}
+use mathlib.Core.Path.{◌≡◌, refl, sym, ap, ◌∙◌}
+use mathlib.Core.Bool.{Bool, true, false}
+use mathlib.Core.List.{List}
+use Prim.Native.Nat.{ℕ, zero, suc, ◌+◌, ◌*◌, ◌≤◌, ◌<◌}
 use native.Mathlib.Omega.{arith}
-use borrow.Author.Tests.{le-leb, lt-leb}
+use borrow.Author.Tests.{le-leb, lt-leb, tests}
 use lib.Dec.{leb}
-use lib.ListN.{length, take, drop}
+use lib.ListN.{take, drop}
+use Rattle.std.specs.Prelude.{Option, Some, None, MatchOption}
+use Rattle.std.proofs.Common.{rules}
+use Rattle.std.proofs.lemmas.Iterator.{first_from_Range}
 use Rattle.model.specs.Lists.{first_where}
 use Rattle.model.specs.Model.{Words, state_count}
 use Rattle.model.specs.Policy.{Policy}
 use Rattle.model.specs.Limit.{Limit, limit_of, keeps_limit, mark_of}
-use Rattle.record.specs.Parts.{parts, parts-left, part-inside}
+use Rattle.record.specs.Parts.{parts}
 use Rattle.path_sums.specs.Books.{most_over}
 use Rattle.marked.specs.Kept.{by_most}
 use Rattle.limit.proofs.above_kept.Goals as goal
 
-module _ (ws : Words) (limit : Limit) (p : Policy) (ps : List Policy) where
-  found : keeps_limit ws limit p ≡ true → first_where (keeps_limit ws limit) (p ∷ ps) ≡ 0
-  found e = rw e
+-- the parts from i on, by whether they pass a test
+module _ (plans : List ℕ) (s : ℕ) (test : Policy → Bool) where
+  abbrev here : ℕ → Bool
+  here i = test (take s (drop (i * s) plans))
 
-  other : keeps_limit ws limit p ≡ false → first_where (keeps_limit ws limit) (p ∷ ps) ≡ suc (first_where (keeps_limit ws limit) ps)
-  other e = rw e
+  nowhere : (i n : ℕ) → ((k : ℕ) → i ≤ k → k < i + n → here k ≡ false) → first_where test (parts plans s i n) ≡ n
+  nowhere i zero h = refl
+  nowhere i (suc n) h = rw (h i (omega arith) (omega arith)) (ap suc (nowhere (suc i) n (λ k a b. h k (omega arith) (omega arith))))
 
-pub loop-i-init : goal.loop-i-init
-loop-i-init c =
-    let s = c in
-    let e : s.args.n - 0 ≡ s.args.n = omega arith in
-    (omega arith, rw e (sym (zero-add _)))
+  first : (i n d j : ℕ) → j ≡ i + d → d < n → ((k : ℕ) → i ≤ k → k < j → here k ≡ false) → here j ≡ true → first_where test (parts plans s i n) ≡ d
+  first i zero d j e l h y = absurd (omega arith)
+  first i (suc n) zero j e l h y = let m : j ≡ i = omega arith in rw (rw m at y) refl
+  first i (suc n) (suc d) j e l h y =
+      rw (h i (omega arith) (omega arith)) (ap suc (first (suc i) n d j (omega arith) (omega arith) (λ k a b. h k (omega arith) b) y))
 
--- part i
-module _ (ws : Words) (limit : Limit) (plans : List ℕ) (n i : ℕ) (here : i < n) where
-  abbrev part : Policy
-  part = take (state_count ws) (drop (i * state_count ws) plans)
+-- a part keeps the limit if the most of its paths does
+module _ (ws : Words) (marks : List ℕ) (m : ℕ) (plans : List ℕ) (s : ℕ) (states : s ≡ state_count ws) where
+  abbrev most_at : ℕ → ℕ
+  most_at i = most_over ws (mark_of ws marks) (take (state_count ws) (drop (i * s) plans))
 
-  abbrev rest : List Policy
-  rest = parts plans (state_count ws) (i + 1) (n - (i + 1))
+  abbrev test : Policy → Bool
+  test = keeps_limit ws (limit_of marks m)
 
-  -- it was looked at
-  keeps : (s most : ℕ) → s ≡ state_count ws
-      → most ≡ most_over ws (mark_of ws limit.marks) (take (state_count ws) (drop (i * s) plans)) → keeps_limit ws limit part ≡ leb most limit.most
-  keeps s most states e =
-      by_most ws limit part
-      ∙ ap (λ (n : ℕ). leb n limit.most)
-      (sym (e ∙ ap (λ (n : ℕ). most_over ws (mark_of ws limit.marks) (take (state_count ws) (drop (i * n) plans))) states))
+  keeps : (i : ℕ) → here plans (state_count ws) test i ≡ leb (most_at i) m
+  keeps i = by_most ws (limit_of marks m) _ ∙ rw states refl
 
-  left : first_where (keeps_limit ws limit) (parts plans (state_count ws) 0 n) ≡ i + first_where (keeps_limit ws limit) (parts plans (state_count ws) i (n - i))
-      → first_where (keeps_limit ws limit) (parts plans (state_count ws) 0 n) ≡ i + first_where (keeps_limit ws limit) (part ∷ rest)
-  left h = h ∙ ap (λ (ps : List Policy). i + first_where (keeps_limit ws limit) ps) (parts-left plans (state_count ws) i n here)
-
-pub overflow_mul-i : goal.overflow_mul-i
-overflow_mul-i c =
-    let e = ap (λ (n : ℕ). c.loop-i.i * n) c.requires.0.checked.sizes.s_is in
-    omega (arith, part-inside c.loop-i.i c.args.n (state_count c.args.b.now) (length c.args.plans.now) c.loop-i-test.true c.requires.2, e)
-
-pub most-requires : goal.most-requires
-most-requires c =
-    let e = ap (λ (n : ℕ). c.loop-i.i * n) c.requires.0.checked.sizes.s_is in (
-      c.requires.0,
-      c.requires.1,
-      omega (arith, part-inside c.loop-i.i c.args.n (state_count c.args.b.now) (length c.args.plans.now) c.loop-i-test.true c.requires.2, e),
-    )
-
-pub returns-then-most-m : goal.returns-then-most-m
-returns-then-most-m c =
-    let ws = c.args.b.now in
-    let limit = limit_of c.args.marks.now c.args.m in
-    let plans = c.args.plans.now in
-    let h = c.loop-i-test.true in
-    let k = keeps ws limit plans c.args.n c.loop-i.i h c.args.z.s c.most.result c.requires.0.checked.sizes.s_is c.most.ensures in
-    omega (
-      arith,
-      left ws limit plans c.args.n c.loop-i.i h c.loop-i.invariant.1,
-      found ws limit (part ws limit plans c.args.n c.loop-i.i h) (rest ws limit plans c.args.n c.loop-i.i h)
-          (k ∙ le-leb c.most.result c.args.m c.if-most-m.true),
-    )
-
-pub loop-i-preserved : goal.loop-i-preserved
-loop-i-preserved c =
-    let ws = c.args.b.now in
-    let limit = limit_of c.args.marks.now c.args.m in
-    let plans = c.args.plans.now in
-    let h = c.loop-i-test.true in
-    let k = keeps ws limit plans c.args.n c.loop-i.i h c.args.z.s c.most.result c.requires.0.checked.sizes.s_is c.most.ensures in (
-      omega arith,
-      omega (
-        arith,
-        left ws limit plans c.args.n c.loop-i.i h c.loop-i.invariant.1,
-        other ws limit (part ws limit plans c.args.n c.loop-i.i h) (rest ws limit plans c.args.n c.loop-i.i h)
-            (k ∙ lt-leb c.most.result c.args.m (omega arith)),
-      ),
-    )
+  place_is : (n : ℕ) (r : Option ℕ)
+      → MatchOption r ((k : ℕ) → 0 ≤ k → k < n → m < most_at k) (λ j. (0 ≤ j) × (j < n) × (most_at j ≤ m) × ((k : ℕ) → 0 ≤ k → k < j → m < most_at k))
+      → MatchOption r (first_where test (parts plans (state_count ws) 0 n) ≡ n)
+        (λ j. (j ≡ first_where test (parts plans (state_count ws) 0 n)) × (j < n))
+  place_is n None h = nowhere plans (state_count ws) test 0 n (λ k a b. keeps k ∙ lt-leb (most_at k) m (h k a (omega arith)))
+  place_is n (Some j) h = (
+    sym (first plans (state_count ws) test 0 n j j (omega arith) h.1 (λ k a b. keeps k ∙ lt-leb (most_at k) m (h.3 k a b)) (keeps j ∙ le-leb (most_at j) m h.2)),
+    h.1,
+  )
 
 pub returns : goal.returns
 returns c =
-    let l = c in
-    let s = l in
-    let ws = s.args.b.now in
-    let e : s.args.n - l.loop-i.i ≡ 0 = omega (arith, c.loop-i-test.false) in
-    let z : l.loop-i.i ≡ s.args.n = omega (arith, c.loop-i-test.false, l.loop-i.invariant.0) in
-    omega (
-      arith,
-      z,
-      l.loop-i.invariant.1,
-      ap (λ (n : ℕ). first_where (keeps_limit ws (limit_of s.args.marks.now s.args.m)) (parts s.args.plans.now (state_count ws) l.loop-i.i n)) e,
-    )
+    let ws = c.args.b.now in
+    let marks = c.args.marks.now in
+    let plans = c.args.plans.now in
+    let s = c.args.z.s in
+    let m = c.args.m in
+    let states = c.requires.0.checked.sizes.s_is in
+    place_is ws marks m plans s states c.args.n c.find.result
+    (first_from_Range _ _ _ _ (λ i. most_at ws marks m plans s states i ≤ m) (λ i. m < most_at ws marks m plans s states i) c.find.ensures.ran
+    (λ x q k. search (rules, tests)) (λ x q k. search (rules, tests)))
