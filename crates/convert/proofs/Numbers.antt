@@ -8,7 +8,7 @@ use native.Mathlib.Omega.{arith}
 use borrow.Author.Tests.{le-leb, lt-leb}
 use lib.Dec.{leb}
 use lib.IntN.{ℤ, pos, nat_abs}
-use lib.ListN.{length, take, drop, length-append, length-drop}
+use lib.ListN.{length, take, drop}
 use lib.Seq.{take_at}
 use Rattle.model.specs.Lists.{all}
 use Rattle.model.specs.Model.{Words, word, horizon, state_count}
@@ -131,10 +131,6 @@ module _ (t : Words) (slice : List ℤ) where
     unfolding convert_slice
     book_given after e = gives (sym ok) slice e
 
--- ---- a list over the front of another
-
-pub over_long : (xs o : List ℤ) → length xs ≤ length o → length (over xs o) ≡ length o
-over_long xs o h = length-append xs (drop (length xs) o) ∙ omega (arith, length-drop (length xs) o)
-
+-- a list over the front of another
 pub over-front : (xs o : List ℤ) (n : ℕ) → length xs ≡ n → take n (over xs o) ≡ xs
 over-front xs o n e = take_at xs (drop (length xs) o) n e

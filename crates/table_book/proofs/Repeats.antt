@@ -8,7 +8,7 @@ use lib.IntN.{ℤ}
 use lib.ListN.{length, take, drop, length-append}
 use lib.Seq.{length-take-le, take-append-le, take-take, take-add, take_at, drop_at}
 use Rattle.bytes_io.specs.Slices.{written}
-use Rattle.bytes_io.proofs.Parts.{Filling, fill_start, fill_part, fill_end, written_join}
+use Rattle.bytes_io.proofs.Parts.{Filling, fill_part, fill_end, written_join}
 use Rattle.table_book.specs.Columns.{repeated}
 use Rattle.table_book.proofs.Lists.{one_more, row_fits, last_row, copies_step}
 
@@ -37,12 +37,6 @@ module _ (o₀ : List ℤ) (at m w : ℕ) (xs : List ℤ) where
   -- it was written k times
   pub record Repeating (o : List ℤ) (k : ℕ) : Type 0 where
     pub filling : Filling o₀ at (m * w) (repeated m xs) o (k * w) (repeated (m - k) xs)
-
-  pub rep_start : Repeating o₀ 0
-  rep_start =
-      let z : m - 0 ≡ m = omega arith in
-      let y : 0 * w ≡ 0 = omega arith in
-      record { filling = rw (z, y) (fill_start o₀ at (m * w) (repeated m xs)) }
 
   module _ (fits : at + m * w ≤ length o₀) {o : List ℤ} {k : ℕ} (h : Repeating o k) where
     pub rep_step : length xs ≡ w → {o' : List ℤ} → k < m → o' ≡ written o (at + k * w) w xs → Repeating o' (k + 1)
