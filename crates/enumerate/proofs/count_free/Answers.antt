@@ -5,7 +5,7 @@ use native.Mathlib.Omega.{arith}
 use lib.ListN.{length}
 use Rattle.enumerate.proofs.Free.{free_from, none_left, free_more, free-later}
 use Rattle.enumerate.proofs.count_free.Goals as goal
-use Rattle.enumerate.proofs.count_free.Goals.{then-not-has8, else-not-has8}
+use Rattle.enumerate.proofs.count_free.Goals.{then-not-has, else-not-has}
 
 pub loop-c-init : goal.loop-c-init
 loop-c-init c = (omega arith, omega arith, omega arith)
@@ -18,16 +18,16 @@ loop-c-preserved c =
     let mask = c.args.mask in
     let n = c.args.n in
     let h = c.loop-c-test.true in
-    elim c.if-not-has8.branch [
-      | then-not-has8 u ↦ (
+    elim c.if-not-has.branch [
+      | then-not-has u ↦ (
         omega arith,
         omega (arith, u.found-is),
-        omega (arith, u.found-is, ap length (free_more mask c.loop-c.c n h (sym c.has8.ensures ∙ u.if-not-has8.true))),
+        omega (arith, u.found-is, ap length (free_more mask c.loop-c.c n h (sym c.has.ensures ∙ u.if-not-has.true))),
       )
-      | else-not-has8 u ↦ (
+      | else-not-has u ↦ (
         omega arith,
         omega (arith, u.found-is),
-        omega (arith, u.found-is, ap length (free-later mask c.loop-c.c n h (sym c.has8.ensures ∙ u.if-not-has8.false))),
+        omega (arith, u.found-is, ap length (free-later mask c.loop-c.c n h (sym c.has.ensures ∙ u.if-not-has.false))),
       )
     ]
 

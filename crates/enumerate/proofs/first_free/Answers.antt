@@ -8,19 +8,19 @@ use Rattle.enumerate.proofs.first_free.Goals as goal
 pub loop-c-init : goal.loop-c-init
 loop-c-init c = refl
 
-pub returns-then-not-has8 : goal.returns-then-not-has8
-returns-then-not-has8 c =
+pub returns-then-not-has : goal.returns-then-not-has
+returns-then-not-has c =
     let l = c in
     let s = l in
     sym (ap first_of l.loop-c.invariant
-    ∙ free_here s.args.mask l.loop-c.c s.args.n c.loop-c-test.true (sym c.has8.ensures ∙ c.if-not-has8.true))
+    ∙ free_here s.args.mask l.loop-c.c s.args.n c.loop-c-test.true (sym c.has.ensures ∙ c.if-not-has.true))
 
 pub loop-c-preserved : goal.loop-c-preserved
 loop-c-preserved c =
     let l = c in
     let s = l in
     l.loop-c.invariant
-    ∙ free-later s.args.mask l.loop-c.c s.args.n c.loop-c-test.true (sym c.has8.ensures ∙ c.if-not-has8.false)
+    ∙ free-later s.args.mask l.loop-c.c s.args.n c.loop-c-test.true (sym c.has.ensures ∙ c.if-not-has.false)
 
 pub returns : goal.returns
 returns c =

@@ -16,13 +16,13 @@ use Rattle.enumerate.proofs.lowest_byte.Goals.{Start}
 small : (s : goal.Start) → s.args.p < 64
 small s = omega (arith, s.requires.2, (accepted s.args.b.now s.requires.0.ok).sizes.s_high)
 
-pub has64-requires : goal.has64-requires
-has64-requires c = small c
+pub has-requires : goal.has-requires
+has-requires c = small c
 
-pub returns-then-not-has64 : goal.returns-then-not-has64
-returns-then-not-has64 c =
+pub returns-then-not-has : goal.returns-then-not-has
+returns-then-not-has c =
     let s = c in
-    sym (ap (lowest_at s.args.b.now s.args.p) (sym c.has64.ensures ∙ c.if-not-has64.true))
+    sym (ap (lowest_at s.args.b.now s.args.p) (sym c.has.ensures ∙ c.if-not-has.true))
 
 pub bounds-off-p : goal.bounds-off-p
 bounds-off-p c = small (goal.at.bounds-off-p c).Start
@@ -42,4 +42,4 @@ returns c =
     c.first_free.ensures
     ∙ ap (λ (m : ℕ). first_of (free (get_or s.args.off.now s.args.p 0) (up_from 0 (m - 0)))) n.count-n.ensures
     ∙ rw sub-zero (ap first_of (s.requires.1.leaves s.args.p s.requires.2))
-    ∙ sym (ap (lowest_at ws s.args.p) (sym e.has64.ensures ∙ e.if-not-has64.false))
+    ∙ sym (ap (lowest_at ws s.args.p) (sym e.has.ensures ∙ e.if-not-has.false))

@@ -29,4 +29,4 @@ pub returns : goal.returns
 returns c qs h =
     let m = c in
     let s = m in
-    rw c.union64.ensures (set-union m.next_set-more.result s.args.known (nexts (action s.args.b.now s.args.p s.args.c).transitions) qs m.next_set-more.ensures h)
+    rw c.union.ensures (set-union m.next_set-more.result s.args.known (nexts (action s.args.b.now s.args.p s.args.c).transitions) qs m.next_set-more.ensures h)
