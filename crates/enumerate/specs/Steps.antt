@@ -1,6 +1,6 @@
 -- What each step on the way through the policies gives.
 -- Assumes nothing.
-use Rattle.std.specs.Prelude.{◌≡◌, Bool, true, false, ◌⊎◌, List, [], ◌∷◌, ◌++◌, ℕ, ◌-◌, ◌≤◌, ◌<◌, T, length, get_or, take}
+use Rattle.std.specs.Prelude.{◌≡◌, Bool, true, false, List, [], ◌∷◌, ◌++◌, ℕ, ◌-◌, ◌≤◌, ◌<◌, T, length, get_or, take, Option, Some, None}
 use Rattle.std.proofs.Math.Option.{none, some}
 use Rattle.model.specs.Model.{Words, state_count, action}
 use Rattle.model.specs.Policy.{Policy, onward, is_policy, policies}
@@ -23,12 +23,12 @@ pub record Last (ws : Words) (bs : Policy) (r : Raise) : Type 0 where
   pub after : (q : ℕ) → r.state < q → q < state_count ws → higher_at ws bs q ≡ none
 
 -- no state has one
-pub record None (ws : Words) (bs : Policy) (r : Raise) : Type 0 where
-  pub state_is : r.state ≡ state_count ws
-  pub all : (q : ℕ) → q < state_count ws → higher_at ws bs q ≡ none
+abbrev pub NoHigher : Words → Policy → Type 0
+NoHigher ws bs = (q : ℕ) → q < state_count ws → higher_at ws bs q ≡ none
 
-abbrev pub RaiseIs : Words → Policy → Raise → Type 0
-RaiseIs ws bs r = Last ws bs r ⊎ None ws bs r
+abbrev pub RaiseIs : Words → Policy → Option Raise → Type 0
+RaiseIs ws bs (Some r) = Last ws bs r
+RaiseIs ws bs None = NoHigher ws bs
 
 -- the lowest byte of state p, reached or not
 abbrev pub lowest_at : Words → ℕ → Bool → ℕ

@@ -48,8 +48,8 @@ pub struct Raise {
     pub action: usize,
 }
 
-// The last state at which a policy can take a higher action, and the first such action; the number of states and 255 where there is none.
-fn raise_of(b: &[i32], z: Sizes, off: &[u8; 64], plan: &[u8]) -> Raise
+// The last state at which a policy can take a higher action, and the first such action, if there is one.
+fn raise_of(b: &[i32], z: Sizes, off: &[u8; 64], plan: &[u8]) -> Option<Raise>
     requires { Checked b.now z × BarredOf b.now off.now × (length plan.now ≡ state_count b.now) }
     ensures { RaiseIs b.now plan.now result }
 {
@@ -57,16 +57,13 @@ fn raise_of(b: &[i32], z: Sizes, off: &[u8; 64], plan: &[u8]) -> Raise
     for p in (0..s).rev() {
         let c = higher_at(b, z, off, plan, p);
         if c != 255 {
-            return Raise {
+            return Some(Raise {
                 state: p,
                 action: c,
-            };
+            });
         }
     }
-    Raise {
-        state: s,
-        action: 255,
-    }
+    None
 }
 
 // The lowest action of state p that a policy can take, if the state is among those known to be reached, else 255.
@@ -146,12 +143,10 @@ pub fn next(
     requires { Indexed b.now z x.now × BarredOf b.now off.now × Stands b.now plan.old reach.old }
     ensures { Followed b.now plan.old result plan.new reach.new }
 {
-    let up = raise_of(b, z, off, plan);
-    let p = up.state;
-    let s = z.s;
-    if p == s {
+    let Some(up) = raise_of(b, z, off, plan) else {
         return false;
-    }
+    };
+    let p = up.state;
     let c = up.action;
     plan[p] = c as u8;
     let known = reach[p];

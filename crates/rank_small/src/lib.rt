@@ -22,18 +22,6 @@ use sets::Set;
 // A book with more policies than this is refused.
 const MOST_POLICIES: usize = 4096;
 
-fn no_bytes() -> [u8; 64]
-    ensures { length result ≡ 64 }
-{
-    [0; 64]
-}
-
-fn no_sets() -> [u64; 64]
-    ensures { length result ≡ 64 }
-{
-    [0; 64]
-}
-
 // 30: has the book no more policies than the limit? They are counted only where that is not seen at once.
 fn is_small(b: &[i32], z: Sizes, x: &[usize; 192], off: &[u8; 64]) -> bool
     requires { Indexed b.now z x.now × BarredOf b.now off.now × (has_policy b.now ≡ true) }
@@ -43,8 +31,8 @@ fn is_small(b: &[i32], z: Sizes, x: &[usize; 192], off: &[u8; 64]) -> bool
         return true;
     }
     let s = z.s;
-    let mut row = no_bytes();
-    let mut reach = no_sets();
+    let mut row = [0; 64];
+    let mut reach = [0; 64];
     let n = enumerate::count_to(b, z, x, off, MOST_POLICIES, &mut row[..s], &mut reach);
     n <= MOST_POLICIES
 }
@@ -82,7 +70,7 @@ fn go_through(
     requires { Indexed b.now z x.now × BarredOf b.now off.now × (has_policy b.now ≡ true) × (length (policies b.now) ≤ most_small) × (length plan.old ≡ state_count b.now) × RoomFor b.now k costs.old plans.old }
     ensures { Holds (policy_cost b.now) (ranking b.now k) result costs.old costs.new plans.old plans.new }
 {
-    let mut reach = no_sets();
+    let mut reach = [0; 64];
     enumerate::first(b, z, x, off, plan, &mut reach);
     let mut n: usize = 0;
     let mut j: usize = 0;
@@ -96,7 +84,12 @@ fn go_through(
 }
 
 // The list for any book, count and slices: how many policies it has. A refusal writes nothing.
-pub fn rank_small(b: &[i32], k: usize, costs: &mut [i64], plans: &mut [u8]) -> Result<usize, Refusal>
+pub fn rank_small(
+    b: &[i32],
+    k: usize,
+    costs: &mut [i64],
+    plans: &mut [u8],
+) -> Result<usize, Refusal>
     ensures number { number_in result ≡ small_number b.now (room_of k costs.old plans.old) }
     ensures count { IfOk result (λ n. n ≡ small_count b.now (room_of k costs.old plans.old)) }
     ensures costs { costs.new ≡ small_costs b.now k costs.old plans.old }
@@ -119,6 +112,6 @@ pub fn rank_small(b: &[i32], k: usize, costs: &mut [i64], plans: &mut [u8]) -> R
     if plans.len() < k * s {
         return Err(Refusal::PlanRoom);
     }
-    let mut row = no_bytes();
+    let mut row = [0; 64];
     Ok(go_through(b, z, &x, &m.off, k, &mut row[..s], costs, plans))
 }

@@ -1,7 +1,7 @@
 -- Those before c are counted.
 -- Assumes nothing.
 use mathlib.Core.Path.{◌≡◌}
-use Prim.Native.Nat.{◌+◌, ◌-◌, ◌≤◌}
+use Prim.Native.Nat.{◌+◌, ◌≤◌}
 use lib.ListN.{length}
 use Rattle.enumerate.proofs.Free.{free_from}
 use Rattle.enumerate.proofs.count_free.Given as goal

@@ -6,7 +6,6 @@ use native.Mathlib.Numerals.{add-one}
 use native.Mathlib.Omega.{arith}
 use Rattle.model.specs.Model.{state_count}
 use Rattle.model.specs.Recursion.{feasible}
-use Rattle.accepted.specs.Facts.{accepted}
 use Rattle.enumerate.specs.Ways.{ways_at, ways, policies-most}
 use Rattle.enumerate.proofs.few_at_sight.Goals as goal
 

@@ -1,7 +1,6 @@
 -- None of the actions before c is left.
 -- Assumes nothing.
 use mathlib.Core.Path.{◌≡◌}
-use Prim.Native.Nat.{◌-◌}
 use Rattle.enumerate.proofs.Free.{free_from}
 use Rattle.enumerate.proofs.first_free.Given as goal
 

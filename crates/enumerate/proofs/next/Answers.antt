@@ -2,7 +2,7 @@
 -- Assumes nothing.
 use mathlib.Core.Path.{◌≡◌, sym, ◌∙◌}
 use mathlib.Core.Bool.{true, false}
-use mathlib.Core.Logic.{inl, inr}
+use mathlib.Core.Logic.{inr}
 use Prim.Native.Nat.{ℕ}
 use native.Mathlib.Omega.{arith}
 use lib.Dec.{T}
@@ -13,8 +13,6 @@ use Rattle.model.specs.Policy.{Policy, is_policy}
 use Rattle.accepted.specs.Facts.{accepted}
 use Rattle.accepted.specs.Demands.{policy-bytes}
 use Rattle.next_policy.proofs.Books.{next_last}
-use Rattle.enumerate.specs.declared.Raise.{Raise}
-use Rattle.enumerate.specs.Steps.{Last, None, RaiseIs}
 use Rattle.enumerate.proofs.Filling.{lowest_small, reached-next}
 use Rattle.enumerate.proofs.Following.{raise_acts, next_stands}
 use Rattle.enumerate.proofs.next.Goals as goal
@@ -25,60 +23,45 @@ false-not e = let z : ◌≡◌ {A = ℕ} 0 1 = cc in omega arith
 bytes_long : (ws : Words) → book_number ws ≡ 0 → (bs : Policy) → T (is_policy ws bs) → length bs ≡ state_count ws
 bytes_long ws ok bs t = ((policy-bytes ws ok bs).0 t).long
 
--- which of the two it is
-is_none : (ws : Words) (bs : Policy) (r : Raise) → r.state ≡ state_count ws → RaiseIs ws bs r → None ws bs r
-is_none ws bs r e (inl l) = absurd (omega (arith, l.inside))
-is_none ws bs r e (inr n) = n
-
-is_last : (ws : Words) (bs : Policy) (r : Raise) → (r.state ≡ state_count ws → ⊥) → RaiseIs ws bs r → Last ws bs r
-is_last ws bs r e (inl l) = l
-is_last ws bs r e (inr n) = absurd (e n.state_is)
-
--- where a state has one
-last_is : (ws : Words) (bs : Policy) (r : Raise) (n : ℕ) → n ≡ state_count ws → (r.state ≡ n → ⊥) → RaiseIs ws bs r → Last ws bs r
-last_is ws bs r n e other i = is_last ws bs r (λ z. other (z ∙ sym e)) i
-
-pub raise_of-up-requires : goal.raise_of-up-requires
-raise_of-up-requires c =
+pub raise_of-requires : goal.raise_of-requires
+raise_of-requires c =
     (c.requires.0.checked, c.requires.1, bytes_long c.args.b.now c.requires.0.checked.ok c.args.plan.now c.requires.2.is)
 
-pub returns-then-p-s : goal.returns-then-p-s
-returns-then-p-s c =
-    let n = is_none c.args.b.now c.args.plan.now c.raise_of-up.result (c.if-p-s.true ∙ c.requires.0.checked.sizes.s_is) c.raise_of-up.ensures in
-    record {
-      ends = λ e. next_last c.args.b.now c.requires.0.checked.ok c.args.plan.now c.requires.2.is n.all;
-      follows = λ e. absurd (false-not e);
-      stands = λ e. absurd (false-not e);
-    }
+pub returns-in_default : goal.returns-in_default
+returns-in_default c = record {
+  ends = λ e. next_last c.args.b.now c.requires.0.checked.ok c.args.plan.now c.requires.2.is c.in_default.ensures;
+  follows = λ e. absurd (false-not e);
+  stands = λ e. absurd (false-not e);
+}
 
 pub overflow_cast-plan : goal.overflow_cast-plan
 overflow_cast-plan c =
-    let last = last_is c.args.b.now c.args.plan.now c.raise_of-up.result c.args.z.s c.requires.0.checked.sizes.s_is c.if-p-s.false c.raise_of-up.ensures in
-    let acts = raise_acts c.args.b.now c.requires.0.checked.ok c.args.plan.now (bytes_long c.args.b.now c.requires.0.checked.ok c.args.plan.now c.requires.2.is) c.requires.2.is c.raise_of-up.result last in
-    omega (arith, lowest_small c.args.b.now c.raise_of-up.result.state c.requires.0.checked.ok last.inside c.raise_of-up.result.action (inr acts))
+    let last = c.in-Some.ensures in
+    let acts = raise_acts c.args.b.now c.requires.0.checked.ok c.args.plan.now (bytes_long c.args.b.now c.requires.0.checked.ok c.args.plan.now c.requires.2.is) c.requires.2.is c.in-Some.up last in
+    omega (arith, lowest_small c.args.b.now c.in-Some.up.state c.requires.0.checked.ok last.inside c.in-Some.up.action (inr acts))
 
 pub bounds-plan-p : goal.bounds-plan-p
-bounds-plan-p c = let last = last_is c.args.b.now c.args.plan.now c.raise_of-up.result c.args.z.s c.requires.0.checked.sizes.s_is c.if-p-s.false c.raise_of-up.ensures in omega (arith, last.inside, (bytes_long c.args.b.now c.requires.0.checked.ok c.args.plan.now c.requires.2.is))
+bounds-plan-p c = let last = c.in-Some.ensures in omega (arith, last.inside, (bytes_long c.args.b.now c.requires.0.checked.ok c.args.plan.now c.requires.2.is))
 
 pub offset_bounds-reach-p : goal.offset_bounds-reach-p
-offset_bounds-reach-p c = let last = last_is c.args.b.now c.args.plan.now c.raise_of-up.result c.args.z.s c.requires.0.checked.sizes.s_is c.if-p-s.false c.raise_of-up.ensures in omega (arith, last.inside, (accepted c.args.b.now c.requires.0.checked.ok).sizes.s_high)
+offset_bounds-reach-p c = let last = c.in-Some.ensures in omega (arith, last.inside, (accepted c.args.b.now c.requires.0.checked.ok).sizes.s_high)
 
 pub bounds-reach-p : goal.bounds-reach-p
-bounds-reach-p c = let last = last_is c.args.b.now c.args.plan.now c.raise_of-up.result c.args.z.s c.requires.0.checked.sizes.s_is c.if-p-s.false c.raise_of-up.ensures in omega (arith, last.inside, (accepted c.args.b.now c.requires.0.checked.ok).sizes.s_high)
+bounds-reach-p c = let last = c.in-Some.ensures in omega (arith, last.inside, (accepted c.args.b.now c.requires.0.checked.ok).sizes.s_high)
 
 pub onward-set-requires : goal.onward-set-requires
 onward-set-requires c =
-    let last = last_is c.args.b.now c.args.plan.now c.raise_of-up.result c.args.z.s c.requires.0.checked.sizes.s_is c.if-p-s.false c.raise_of-up.ensures in
-    let acts = raise_acts c.args.b.now c.requires.0.checked.ok c.args.plan.now (bytes_long c.args.b.now c.requires.0.checked.ok c.args.plan.now c.requires.2.is) c.requires.2.is c.raise_of-up.result last in
+    let last = c.in-Some.ensures in
+    let acts = raise_acts c.args.b.now c.requires.0.checked.ok c.args.plan.now (bytes_long c.args.b.now c.requires.0.checked.ok c.args.plan.now c.requires.2.is) c.requires.2.is c.in-Some.up last in
     (c.requires.0, last.inside, inr acts)
 
 pub overflow_add-p : goal.overflow_add-p
-overflow_add-p c = let last = last_is c.args.b.now c.args.plan.now c.raise_of-up.result c.args.z.s c.requires.0.checked.sizes.s_is c.if-p-s.false c.raise_of-up.ensures in omega (arith, last.inside, (accepted c.args.b.now c.requires.0.checked.ok).sizes.s_high)
+overflow_add-p c = let last = c.in-Some.ensures in omega (arith, last.inside, (accepted c.args.b.now c.requires.0.checked.ok).sizes.s_high)
 
 pub fill-requires : goal.fill-requires
 fill-requires c =
-    let last = last_is c.args.b.now c.args.plan.now c.raise_of-up.result c.args.z.s c.requires.0.checked.sizes.s_is c.if-p-s.false c.raise_of-up.ensures in
-    let r = c.raise_of-up.result in
+    let last = c.in-Some.ensures in
+    let r = c.in-Some.up in
     let long = (bytes_long c.args.b.now c.requires.0.checked.ok c.args.plan.now c.requires.2.is) in (
       c.requires.0,
       c.requires.1,
@@ -91,14 +74,14 @@ fill-requires c =
 -- the policy that is filled in
 pub shape_of-plan : goal.shape_of-plan
 shape_of-plan c =
-    let last = last_is c.args.b.now c.args.plan.now c.raise_of-up.result c.args.z.s c.requires.0.checked.sizes.s_is c.if-p-s.false c.raise_of-up.ensures in
-    let n = next_stands c.args.b.now c.requires.0.checked.ok c.args.plan.now (bytes_long c.args.b.now c.requires.0.checked.ok c.args.plan.now c.requires.2.is) c.requires.2.is c.raise_of-up.result last c.args.reach.now _
+    let last = c.in-Some.ensures in
+    let n = next_stands c.args.b.now c.requires.0.checked.ok c.args.plan.now (bytes_long c.args.b.now c.requires.0.checked.ok c.args.plan.now c.requires.2.is) c.requires.2.is c.in-Some.up last c.args.reach.now _
     c.requires.2.sets _ c.fill.ensures in
     bytes_long c.args.b.now c.requires.0.checked.ok _ n.1.is ∙ sym (bytes_long c.args.b.now c.requires.0.checked.ok c.args.plan.now c.requires.2.is)
 
 pub returns : goal.returns
 returns c =
-    let last = last_is c.args.b.now c.args.plan.now c.raise_of-up.result c.args.z.s c.requires.0.checked.sizes.s_is c.if-p-s.false c.raise_of-up.ensures in
-    let n = next_stands c.args.b.now c.requires.0.checked.ok c.args.plan.now (bytes_long c.args.b.now c.requires.0.checked.ok c.args.plan.now c.requires.2.is) c.requires.2.is c.raise_of-up.result last c.args.reach.now _
+    let last = c.in-Some.ensures in
+    let n = next_stands c.args.b.now c.requires.0.checked.ok c.args.plan.now (bytes_long c.args.b.now c.requires.0.checked.ok c.args.plan.now c.requires.2.is) c.requires.2.is c.in-Some.up last c.args.reach.now _
     c.requires.2.sets _ c.fill.ensures in
     record { ends = λ z. absurd (false-not (sym z)); follows = λ z. n.0; stands = λ z. n.1 }

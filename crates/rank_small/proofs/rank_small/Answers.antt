@@ -8,7 +8,7 @@ use native.Mathlib.Nat.{mul-le-mul}
 use native.Mathlib.Omega.{arith}
 use borrow.Author.Tests.{le-leb, lt-leb, leb-true}
 use lib.IntN.{ℤ}
-use lib.ListN.{length}
+use lib.ListN.{length-replicate, replicate, length}
 use lib.Seq.{length-take-le}
 use Rattle.model.specs.Model.{Words, state_count}
 use Rattle.model.specs.Questions.{book_number}
@@ -26,6 +26,13 @@ use Rattle.std.proofs.lemmas.Result.{err_from_is_err_and}
 use Rattle.refusal.specs.declared.Refusal.{Refusal}
 use Rattle.refusal.specs.Refusal.{number_of, some_number}
 use Rattle.rank_small.proofs.rank_small.Goals as goal
+
+-- an array of zeros
+abbrev row : List ℕ
+row = replicate 64 0
+
+row_long : length row ≡ 64
+row_long = length-replicate {A = ℕ} 64 0
 
 -- the figures of a refusal, by the number of its question
 told : (ws : Words) (k : ℕ) (costs : List ℤ) (plans : List ℕ) (q : Refusal) → number_of q ≡ small_number ws (room_of k costs plans)
@@ -106,14 +113,14 @@ returns-then-plans-k c =
 pub slice_bounds-row-end : goal.slice_bounds-row-end
 slice_bounds-row-end c =
     let d = counted_says c.args.b.now c.args.k (sym c.in_ok-counted_number.ensures) in
-    omega (arith, c.sizes-z.ensures.sizes.s_is, (accepted c.args.b.now d.ok).sizes.s_high, c.no_bytes-row.ensures)
+    omega (arith, c.sizes-z.ensures.sizes.s_is, (accepted c.args.b.now d.ok).sizes.s_high, row_long)
 
 pub slice_bounds-go_through-end : goal.slice_bounds-go_through-end
 slice_bounds-go_through-end c =
     let d = counted_says c.args.b.now c.args.k (sym c.in_ok-counted_number.ensures) in
-    let l : c.sizes-z.result.s ≤ length c.no_bytes-row.result
-    = omega (arith, c.sizes-z.ensures.sizes.s_is, (accepted c.args.b.now d.ok).sizes.s_high, c.no_bytes-row.ensures) in
-    sym (length-take-le c.sizes-z.result.s c.no_bytes-row.result l)
+    let l : c.sizes-z.result.s ≤ length row
+    = omega (arith, c.sizes-z.ensures.sizes.s_is, (accepted c.args.b.now d.ok).sizes.s_high, row_long) in
+    sym (length-take-le c.sizes-z.result.s row l)
 
 few_policies : (ws : Words) → is_small ws ≡ true → length (policies ws) ≤ most_small
 unfolding is_small
@@ -122,13 +129,13 @@ few_policies ws e = leb-true (length (policies ws)) most_small e
 pub go_through-requires : goal.go_through-requires
 go_through-requires c =
     let d = counted_says c.args.b.now c.args.k (sym c.in_ok-counted_number.ensures) in
-    let l : c.sizes-z.result.s ≤ length c.no_bytes-row.result
-    = omega (arith, c.sizes-z.ensures.sizes.s_is, (accepted c.args.b.now d.ok).sizes.s_high, c.no_bytes-row.ensures) in (
+    let l : c.sizes-z.result.s ≤ length row
+    = omega (arith, c.sizes-z.ensures.sizes.s_is, (accepted c.args.b.now d.ok).sizes.s_high, row_long) in (
       c.index-x.ensures,
       all_barred _ _ _ c.find_barred-m.ensures,
       has_by c.args.b.now d.ok c.find_barred-m.result.off c.find_barred-m.result.dead c.find_barred-m.ensures c.has.result c.has.ensures ∙ ap not c.if-has.false,
       few_policies c.args.b.now (sym c.is_small.ensures ∙ c.if-not-is_small.false),
-      length-take-le c.sizes-z.result.s c.no_bytes-row.result l ∙ c.sizes-z.ensures.sizes.s_is,
+      length-take-le c.sizes-z.result.s row l ∙ c.sizes-z.ensures.sizes.s_is,
       record {
         low = d.low;
         high = d.high;
