@@ -15,8 +15,8 @@ pub fn opened(desk: Desk, record: &[u8]) -> Answer
     ensures { result ≡ opening desk «record».now }
 {
     match accept::accept(record) {
-        Ok(a) => desk.opening(Ok(()), a.k as u8),
-        Err(q) => desk.opening(Err(q), 0),
+        Ok(a) => desk.opening(0, a.k as u8),
+        Err(q) => desk.opening(q.into(), 0),
     }
 }
 

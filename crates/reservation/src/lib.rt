@@ -169,15 +169,13 @@ impl Desk {
     }
 
     // A refused call changes nothing.
-    fn answer(self, asked: Result<(), Refusal>, next: Desk) -> Answer
-        ensures { result ≡ answer (number_in asked) next self }
+    fn answer(self, no: u32, next: Desk) -> Answer
+        ensures { result ≡ answer no next self }
     {
-        match asked {
-            Ok(()) => Answer { no: 0, desk: next },
-            Err(q) => Answer {
-                no: q.into(),
-                desk: self,
-            },
+        if no == 0 {
+            Answer { no: 0, desk: next }
+        } else {
+            Answer { no, desk: self }
         }
     }
 
@@ -187,7 +185,10 @@ impl Desk {
         ensures { result ≡ asking self rider rank }
     {
         let asked = self.ask_number(rider, rank);
-        self.answer(asked, self.holding(rider, (rank % 256) as u8))
+        self.answer(
+            refusal::number(&asked),
+            self.holding(rider, (rank % 256) as u8),
+        )
     }
 
     // The rank held becomes the rider's.
@@ -196,7 +197,7 @@ impl Desk {
         ensures { result ≡ committing self rider }
     {
         let asked = self.commit_number(rider);
-        self.answer(asked, self.taking(rider))
+        self.answer(refusal::number(&asked), self.taking(rider))
     }
 
     // A hold is dropped, a commitment never.
@@ -205,13 +206,13 @@ impl Desk {
         ensures { result ≡ cancelling self rider }
     {
         let asked = rider_number(rider);
-        self.answer(asked, self.holding(rider, 0))
+        self.answer(refusal::number(&asked), self.holding(rider, 0))
     }
 
-    // Opening, by how the record's questions were answered and its k.
-    pub fn opening(self, asked: Result<(), Refusal>, k: u8) -> Answer
-        ensures { result ≡ answer (number_in asked) (open_for k) self }
+    // Opening, of the number and the k that accepting the record gives.
+    pub fn opening(self, no: u32, k: u8) -> Answer
+        ensures { result ≡ answer no (open_for k) self }
     {
-        self.answer(asked, open_for(k))
+        self.answer(no, open_for(k))
     }
 }
