@@ -1,29 +1,24 @@
 -- The sets of actions and states, made one action and one state at a time.
 -- Assumes nothing.
 use mathlib.Core.Path.{◌≡◌, refl, sym, ap, ap₂, ◌∙◌, subst}
-use mathlib.Core.Bool.{Bool, true, false, not, cond, ◌&&◌, ◌||◌}
-use native.Mathlib.Numerals.{add-one}
-use Rattle.std.specs.List.{list_all, range_with_len}
+use mathlib.Core.Bool.{Bool, true, false, not, ◌&&◌, ◌||◌}
 use mathlib.Core.Logic.{◌⊎◌, inl, inr}
 use mathlib.Core.List.{List, [], ◌∷◌}
 use Prim.Native.Nat.{ℕ, zero, suc, ◌+◌, ◌≤◌, ◌<◌}
 use native.Mathlib.Nat.{eq-or-lt_of_le}
 use native.Mathlib.Omega.{arith}
 use borrow.Author.Tests.{eq-eqb, ne_eqb}
-use lib.Dec.{eqb}
-use lib.ListN.{length, drop, set, get_or, length-set}
+use lib.Dec.{T, eqb}
+use lib.ListN.{length, set, get_or, length-set}
 use lib.Seq.{get_or-set_same, get_or-set_other}
 use Rattle.model.specs.Lists.{is_empty, keep, every, up_from}
 use Rattle.model.specs.Model.{Words, Transition, state_count, togo, action_count, action, closed, options}
 use Rattle.model.specs.Questions.{book_number}
 use Rattle.model.specs.Recursion.{feasible_from, feasible}
-use Rattle.laws.specs.Members.{up_from_in, every_both, AtNexts}
-use Rattle.laws.specs.Kept.{keep-keep, keep_same}
+use Rattle.laws.specs.Members.{In, up_from_in, in_up_from, every_both, AtNexts, false-T}
+use Rattle.laws.specs.Kept.{keep_in, in_keep, keep-keep, keep_same, in_some, none_in}
 use Rattle.accepted.specs.Options.{options_are}
 use Rattle.accepted.specs.Shape.{shape}
-use Rattle.lines.specs.Lines.{transition, LinesOf}
-use Rattle.lines.specs.declared.Lines.{Lines}
-use Rattle.lines.proofs.Steps.{next_done, all_done}
 use Rattle.sets.specs.Sets.{has, with, free, has-none, has-with, free-keep}
 use Rattle.feasible.specs.Barred.{avoids, goes_by, DeadFrom, Leaves, BarredFrom}
 
@@ -33,14 +28,6 @@ use Rattle.feasible.specs.Barred.{avoids, goes_by, DeadFrom, Leaves, BarredFrom}
 pub none_dead : (ts : List Transition) → avoids 0 ts ≡ true
 none_dead [] = refl
 none_dead (t ∷ ts) = ap₂ ◌&&◌ (ap not (has-none t.next)) (none_dead ts)
-
--- do the n transitions from transition i on lead to no state of the set? They are those that are left
-pub all_avoid : {ws : Words} {p c : ℕ} {t : Lines} → LinesOf ws p c t → (dead i n : ℕ) → i + n ≡ t.r
-    → list_all (λ (k : ℕ). not (has dead (transition ws p c k).next)) (range_with_len i n) ≡ avoids dead (drop i (action ws p c).transitions)
-all_avoid h dead i zero e = rw (all_done h i (omega arith))
-all_avoid {ws} {p} {c} h dead i (suc n) e =
-    rw (next_done h i (omega arith) (transition ws p c i).next refl)
-    (ap (λ (b : Bool). not (has dead (transition ws p c i).next) && b) (all_avoid h dead (i + 1) n (omega arith)))
 
 module _ (ws : Words) (ok : book_number ws ≡ 0) (p dead : ℕ) (state : p < state_count ws) (d : DeadFrom ws (p + 1) dead) where
   abbrev is_open : ℕ → Bool
@@ -137,15 +124,18 @@ module _ (ws : Words) (p dead : ℕ) where
 
 -- ---- whether a set leaves an action
 
--- are all of the n numbers from k on in the set?
-pub all_of : (mask k n : ℕ) → list_all (has mask) (range_with_len k n) ≡ is_empty (free mask (up_from k n))
-all_of mask k zero = refl
-all_of mask k (suc n) = go (has mask k) (rw (add-one k) (all_of mask (suc k) n))
-  where
-    go : (b : Bool) → list_all (has mask) (range_with_len (k + 1) n) ≡ is_empty (free mask (up_from (suc k) n))
-        → (b && list_all (has mask) (range_with_len (k + 1) n)) ≡ is_empty (cond b (free mask (up_from (suc k) n)) (k ∷ free mask (up_from (suc k) n)))
-    go true e = e
-    go false e = refl
+pub one_left : (mask n c : ℕ) → c < n → has mask c ≡ false → is_empty (free mask (up_from 0 n)) ≡ false
+one_left mask n c l e =
+    in_some (free mask (up_from 0 n)) c
+    (subst (In c) (sym (free-keep mask (up_from 0 n)))
+    (in_keep (λ (x : ℕ). not (has mask x)) c (up_from 0 n) (in_up_from 0 n c (omega arith) (omega arith)) (false-T e)))
+
+pub none_free : (mask n : ℕ) → ((c : ℕ) → c < n → has mask c ≡ true) → is_empty (free mask (up_from 0 n)) ≡ true
+none_free mask n h =
+    ap is_empty (free-keep mask (up_from 0 n)
+    ∙ none_in (keep (λ (x : ℕ). not (has mask x)) (up_from 0 n))
+    (λ c i. let k = keep_in (λ (x : ℕ). not (has mask x)) c (up_from 0 n) i in
+    subst T (ap not (h c (omega (arith, up_from_in 0 n k.0)))) k.1))
 
 -- ---- one state more
 
@@ -175,3 +165,14 @@ module _ (ws : Words) (n : ℕ) (l : n < 64) (off : List ℕ) (dead mask : ℕ) 
       go p b (inl k) =
           ap (λ (t : Bool). t || has dead p) (eq-eqb p n (sym k)) ∙ sym (ap (λ (q : ℕ). is_empty (feasible ws q)) (sym k) ∙ e)
       go p b (inr k) = ap (λ (t : Bool). t || has dead p) (ne_eqb p n (λ q. omega arith)) ∙ h.dead_is p (omega arith) b
+
+-- one number more is in the set
+pub one_more : (mask n : ℕ) → ((c : ℕ) → c < n → has mask c ≡ true) → has mask n ≡ true → (c : ℕ) → c < n + 1 → has mask c ≡ true
+one_more mask n h e c l = go (eq-or-lt_of_le le)
+  where
+    le : c ≤ n
+    le = omega arith
+
+    go : (c ≡ n) ⊎ (c < n) → has mask c ≡ true
+    go (inl k) = ap (has mask) k ∙ e
+    go (inr k) = h c k

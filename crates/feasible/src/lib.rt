@@ -28,7 +28,13 @@ fn avoids(b: &[i32], a: Lines, p: usize, c: usize, dead: u64) -> bool
     requires { LinesOf b.now p c a }
     ensures { result ≡ avoids dead (action b.now p c).transitions }
 {
-    (0..a.r).all(|i| !dead.has(lines::next(b, a, p, c, i)))
+    // no `all` over the range: tried, and slower
+    for i in 0..a.r {
+        if dead.has(lines::next(b, a, p, c, i)) {
+            return false;
+        }
+    }
+    true
 }
 
 // Is action c of state p open, and does it lead to no state of the set `dead`? Where the set is empty no line is looked at.
@@ -68,7 +74,13 @@ fn none_left(mask: u8, n: usize) -> bool
     requires { n ≤ 8 }
     ensures { result ≡ is_empty (free mask (up_from 0 n)) }
 {
-    (0..n).all(|c| mask.has(c))
+    // no `all` over the range: tried, and slower
+    for c in 0..n {
+        if !mask.has(c) {
+            return false;
+        }
+    }
+    true
 }
 
 // The actions that no policy can take, of every state of a checked book.
