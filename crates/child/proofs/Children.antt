@@ -1,12 +1,9 @@
 -- What a child is, by the table, the reach weights and the walk.
 -- Assumes nothing.
 use mathlib.Core.Path.{◌≡◌, sym, ap, ◌∙◌, subst}
-use mathlib.Core.Bool.{Bool, cond}
-use mathlib.Core.Logic.{inl}
 use mathlib.Core.List.{List, [], ◌∷◌}
 use Prim.Native.Nat.{ℕ, ◌≤◌, ◌<◌}
 use native.Mathlib.Omega.{arith}
-use borrow.Author.Tests.{eq-eqb, ne_eqb}
 use lib.Dec.{lit<}
 use mir.Syntax.{w64}
 use mir.Val.{SFits}
@@ -15,7 +12,6 @@ use lib.ListN.{length, get_or}
 use Rattle.model.specs.Questions.{book_number}
 use Rattle.build.specs.Best.{RowsOf}
 use Rattle.model.specs.Model.{Words, scale, state_count, togo, action}
-use Rattle.model.specs.Policy.{Policy}
 use Rattle.model.specs.Path.{byte_at, taken}
 use Rattle.model.specs.Recursion.{best_of, through, feasible}
 use Rattle.laws.specs.Members.{true-T}
@@ -38,8 +34,7 @@ use Rattle.child.specs.Move.{Movable}
 use Rattle.child.proofs.Moves.{movable}
 use Rattle.child.proofs.Plans.{child_plan}
 use Rattle.child.proofs.Splits.{byte-feasible, reaches_here}
-use Rattle.child.specs.Children.{ChildAt, child_of, joined, joined_if, admitted, ChildIs}
-use Rattle.child.specs.declared.Child.{Child}
+use Rattle.child.specs.Children.{ChildAt, child_of}
 
 -- what the code needs of the child with action c at state p, whose parent's byte there is f
 pub record Facts (ws : Words) (q : List ℤ) (e : Entry) (w : List ℕ) (p c f : ℕ) : Type 0 where

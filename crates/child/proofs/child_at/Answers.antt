@@ -14,7 +14,7 @@ use Rattle.stored.specs.Entry.{Entry}
 use Rattle.stored.specs.Children.{child_entry}
 use Rattle.child.specs.Children.{ChildAt, entry_of, joined, admitted}
 use Rattle.child.proofs.Children.{in_plan, Facts, facts, made_is}
-use Rattle.child.proofs.State.{unreached, small, none, child_at_lem, one}
+use Rattle.child.proofs.State.{small, none, child_at_lem, one}
 use Rattle.child.proofs.child_at.Goals as goal
 use Rattle.child.proofs.child_at.Goals.{Else-c-eq255}
 
@@ -22,21 +22,10 @@ pub bounds-plan-p : goal.bounds-plan-p
 bounds-plan-p c =
     in_plan c.args.b.now c.requires.0.ok c.args.q.now c.requires.1 (entry_of c.args.e c.args.plan.now) c.requires.4.right c.args.p c.requires.6
 
-pub returns-then-f-eq255 : goal.returns-then-f-eq255
-returns-then-f-eq255 c =
-    let en = entry_of c.args.e c.args.plan.now in
-    record {
-      joins = λ k es. unreached c.args.b.now c.requires.0.ok c.args.q.now c.requires.1 en c.requires.4.right c.args.p c.requires.5 c.requires.6 k es c.if-f-eq255.true;
-      goes_on = tt;
-    }
-
 pub mask_at-mask-requires : goal.mask_at-mask-requires
 mask_at-mask-requires c =
     small c.args.b.now c.requires.0.ok c.args.q.now c.requires.1 (entry_of c.args.e c.args.plan.now) c.requires.4.right c.args.p c.requires.5
     c.requires.6 0 [] c.if-f-eq255.false
-
-pub next_action-c-requires : goal.next_action-c-requires
-next_action-c-requires c = (c.requires.0, c.requires.2, c.requires.6)
 
 pub returns-then-c-eq255 : goal.returns-then-c-eq255
 returns-then-c-eq255 c =

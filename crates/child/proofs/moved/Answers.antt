@@ -22,9 +22,6 @@ module _ (c : goal.Start) where
   result : SFits w64 (c.args.cost +ℤ pos c.args.w *ℤ (c.args.new -ℤ c.args.old))
   result = result_fits c.args.cost c.args.w c.args.new c.args.old c.requires
 
-pub overflow_sub-result : goal.overflow_sub-result
-overflow_sub-result c = simp (to_z-of_z c.ranges.new, to_z-of_z c.ranges.old) (difference c)
-
 pub overflow_mul-result : goal.overflow_mul-result
 overflow_mul-result c = simp (weight c, to_z-of_z c.ranges.new, to_z-of_z c.ranges.old, to_z-of_z (difference c)) (product c)
 

@@ -3,7 +3,7 @@
 use mathlib.Core.Path.{ap, ◌∙◌}
 use Prim.Native.Nat.{◌+◌, ◌<◌}
 use native.Mathlib.Omega.{arith}
-use borrow.Author.Tests.{eq-eqb, ne_eqb}
+use borrow.Author.Tests.{eq-eqb}
 use lib.ListN.{get_or}
 use Rattle.model.specs.Lists.{up_from}
 use Rattle.model.specs.Recursion.{best_of}
@@ -42,6 +42,3 @@ overflow_add-result c = omega (arith, below_64 (goal.at.overflow_add-result c).S
 
 pub bounds-best-p-2 : goal.bounds-best-p-2
 bounds-best-p-2 c = omega (arith, below_64 (goal.at.bounds-best-p-2 c).Start)
-
-pub returns : goal.returns
-returns c = rw (ne_eqb c.args.split c.args.p c.if-split-p.false)
