@@ -1,11 +1,10 @@
 -- A child of the listed candidate joins those that wait, or stays out.
 -- Assumes nothing.
-use mathlib.Core.Path.{◌≡◌, refl, sym, ap, ◌∙◌, subst}
+use mathlib.Core.Path.{◌≡◌, sym, ap, ◌∙◌, subst}
 use mathlib.Core.Bool.{true}
 use mathlib.Core.List.{List, [], ◌∷◌}
 use Prim.Native.Nat.{ℕ, ◌+◌, ◌*◌, ◌≤◌, ◌<◌}
 use native.Mathlib.Omega.{arith}
-use lib.IntN.{ℤ}
 use lib.ListN.{length, set, get_or, take}
 use lib.Seq.{paste}
 use Rattle.model.specs.Model.{Words, state_count, action}
@@ -15,7 +14,6 @@ use Rattle.book.specs.declared.Sizes.{Sizes}
 use Rattle.index.specs.Index.{Checked}
 use Rattle.build.specs.Walk.{walk_by, chosen}
 use Rattle.build.proofs.Prefix.{walk_long}
-use Rattle.stored.specs.Entry.{Entry}
 use Rattle.pool.specs.declared.Pool.{Pool}
 use Rattle.pool.specs.Entries.{entries, Formed, beyond_of, earlier_than, first_yes, Holding, Inserted, Spare, moved_up}
 use Rattle.pool.proofs.Moves.{slot_low}

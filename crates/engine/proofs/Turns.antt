@@ -1,6 +1,6 @@
 -- The turns of the search: what is listed, and what waits. A listed candidate is split state by state.
 -- Assumes nothing.
-use mathlib.Core.Path.{◌≡◌, refl, sym, ap, ◌∙◌, subst}
+use mathlib.Core.Path.{◌≡◌, sym, ap, ◌∙◌, subst}
 use mathlib.Core.List.{List, [], ◌∷◌}
 use Prim.Native.Nat.{ℕ, ◌+◌, ◌*◌, ◌-◌, ◌≤◌, ◌<◌}
 use native.Mathlib.Nat.{mul-le-mul_right}
@@ -11,7 +11,6 @@ use lib.ListN.{length, set, take, drop}
 use Rattle.std.specs.Prelude.{Option}
 use Rattle.model.specs.Model.{Words, state_count}
 use Rattle.model.specs.Questions.{book_number}
-use Rattle.model.specs.Policy.{Policy}
 use Rattle.laws.specs.Members.{Every}
 use Rattle.accepted.specs.Bytes.{policy_long}
 use Rattle.book.specs.declared.Sizes.{Sizes}

@@ -2,12 +2,11 @@
 -- Assumes nothing.
 use mathlib.Core.Path.{◌≡◌, refl, sym, ap, ◌∙◌, subst}
 use mathlib.Core.List.{List, [], ◌∷◌}
-use Prim.Native.Nat.{ℕ, ◌≤◌}
+use Prim.Native.Nat.{ℕ}
 use native.Mathlib.Omega.{arith}
 use lib.ListN.{length, get_or}
 use lib.Seq.{length-take-le}
 use Rattle.model.specs.Model.{Words, state_count, action}
-use Rattle.accepted.specs.Facts.{accepted}
 use Rattle.accepted.specs.Options.{Feasible, Alive}
 use Rattle.accepted.specs.Shape.{shape, alive_has}
 use Rattle.accepted.specs.Demands.{best_policy}
@@ -55,11 +54,6 @@ module _ {ws : Words} {z : Sizes} {best : List ℕ} (h : Checked ws z) (f : Best
 
   long : length row ≡ state_count ws
   long = ap length row_is ∙ best_long ws h.ok (alive_has ws h.ok some)
-
-pub single-requires : goal.single-requires
-single-requires c =
-    let h = c.requires in
-    (h.5, h.6, omega (arith, long h.0 h.2 h.3 c.build.ensures, few h.0, h.0.sizes.s_is))
 
 pub returns : goal.returns
 returns c =

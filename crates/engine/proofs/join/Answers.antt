@@ -1,18 +1,12 @@
 -- Assumes nothing.
-use mathlib.Core.Path.{◌≡◌, refl, sym, ap, ◌∙◌}
-use Prim.Native.Nat.{◌≤◌}
+use mathlib.Core.Path.{◌≡◌, sym, ◌∙◌}
 use native.Mathlib.Omega.{arith}
 use mir.Syntax.{w64}
 use mir.Val.{to_z, of_z}
-use lib.ListN.{length, take}
 use lib.Seq.{length-take-le}
 use Rattle.std.proofs.Common.{rules}
-use Rattle.laws.specs.Members.{every_take}
-use Rattle.engine.proofs.Joins.{few, stays_out, row_short, no_place, before_last, last_low, slot_small, placed}
+use Rattle.engine.proofs.Joins.{few, stays_out, no_place, before_last, last_low, placed}
 use Rattle.engine.proofs.join.Goals as goal
-
-pub beyond-requires : goal.beyond-requires
-beyond-requires c = (every_take _ c.args.pool.now.count c.args.pool.now.order c.requires.7.slots.low, c.requires.7.most_low)
 
 pub returns-then-beyond : goal.returns-then-beyond
 returns-then-beyond c =
@@ -30,19 +24,6 @@ pub build-requires : goal.build-requires
 build-requires c =
     let h = c.requires in
     (h.0.ok, h.1, h.2, h.3, h.4, h.5, h.6, length-take-le c.args.z.s _ (few h.0) ∙ h.0.sizes.s_is)
-
-pub place-i-requires : goal.place-i-requires
-place-i-requires c =
-    let f = c.requires.7 in
-    (every_take _ c.args.pool.now.count c.args.pool.now.order f.slots.low, f.ascends, row_short c.requires.0 c.args.plan.now c.args.p c.args.d c.args.pool.now f c.build.ensures)
-
-pub write_row-requires : goal.write_row-requires
-write_row-requires c =
-    let same : to_z w64 (of_z w64 c.args.d.cost) ≡ c.args.d.cost = search rules in
-    let e = rw same at c.place-i.ensures in (
-      slot_small c.requires.0 c.args.plan.now c.args.p c.args.d c.args.pool.now c.requires.7 c.build.ensures e c.spare_place-last.ensures c.if-i-k.true,
-      row_short c.requires.0 c.args.plan.now c.args.p c.args.d c.args.pool.now c.requires.7 c.build.ensures,
-    )
 
 pub overflow_cast-pool : goal.overflow_cast-pool
 overflow_cast-pool c = omega (arith, few c.requires.0, c.requires.0.sizes.s_is)

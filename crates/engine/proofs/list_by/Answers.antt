@@ -1,6 +1,6 @@
 -- The search from the first candidate, with the table and the first best actions of the book; nothing where it has no policy.
 -- Assumes nothing.
-use mathlib.Core.Path.{◌≡◌, refl, sym, ap, ◌∙◌}
+use mathlib.Core.Path.{◌≡◌, sym, ap, ◌∙◌}
 use mathlib.Core.Bool.{Bool, not}
 use mathlib.Core.List.{List}
 use Prim.Native.Nat.{ℕ}
@@ -10,7 +10,7 @@ use Rattle.model.specs.Questions.{book_number}
 use Rattle.model.specs.Policy.{has_policy}
 use Rattle.accepted.specs.Shape.{shape, has_alive, has_is}
 use Rattle.sets.specs.Sets.{has}
-use Rattle.feasible.specs.Barred.{BarredFrom, all_barred}
+use Rattle.feasible.specs.Barred.{BarredFrom}
 use Rattle.build.proofs.Best.{table_rows}
 use Rattle.engine.proofs.Ranking.{cost-first, ranked, none_ranked}
 use Rattle.engine.proofs.list_by.Goals as goal
@@ -22,16 +22,6 @@ tested {ws} ok m e = has_is ws ok ∙ sym (ap not (e ∙ m.dead_is 0 (omega arit
 pub returns-then-has : goal.returns-then-has
 returns-then-has c =
     none_ranked c.args.b.now _ (tested c.requires.0.checked.ok c.find_barred-m.ensures c.has.ensures ∙ ap not c.if-has.true)
-
-pub fill_sets-requires : goal.fill_sets-requires
-fill_sets-requires c = (c.requires.0, all_barred _ _ _ c.find_barred-m.ensures, refl)
-
-pub fill_table-requires : goal.fill_table-requires
-fill_table-requires c = (c.requires.0, all_barred _ _ _ c.find_barred-m.ensures, refl, refl)
-
-pub best_actions-requires : goal.best_actions-requires
-best_actions-requires c =
-    (c.requires.0.checked, table_rows _ _ _ c.fill_table.ensures, all_barred _ _ _ c.find_barred-m.ensures, refl)
 
 pub search-requires : goal.search-requires
 search-requires c =

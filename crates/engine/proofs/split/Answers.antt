@@ -1,6 +1,6 @@
 -- Assumes nothing.
-use mathlib.Core.Path.{◌≡◌, refl, sym, subst}
-use Prim.Native.Nat.{◌+◌, ◌<◌}
+use mathlib.Core.Path.{refl}
+use Prim.Native.Nat.{◌<◌}
 use native.Mathlib.Omega.{arith}
 use Rattle.std.proofs.Common.{Some, None}
 use Rattle.model.specs.Model.{state_count}
@@ -8,7 +8,7 @@ use Rattle.stored.specs.Children.{plan_model}
 use Rattle.child.specs.Children.{entry_of}
 use Rattle.child.proofs.Plans.{usable}
 use Rattle.child.proofs.Children.{own-walk, action_or_none}
-use Rattle.engine.proofs.Turns.{Splitting, split_more, split_end}
+use Rattle.engine.proofs.Turns.{split_more, split_end}
 use Rattle.engine.proofs.split.Goals as goal
 use Rattle.engine.proofs.split.Goals.{in-Some, in_default}
 
