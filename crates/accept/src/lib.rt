@@ -9,8 +9,8 @@ ghost use Rattle.refusal.specs.Refusal.{number_in};
 
 use refusal::Refusal;
 
-// Of a record that is accepted: how many states its book has and how many policies are listed.
-#[derive(Clone, Copy)]
+// Of a record that is accepted: how many states its book has and how many policies are listed. Where none is, both are 0.
+#[derive(Clone, Copy, Default)]
 pub struct Accepted {
     pub s: usize,
     pub k: usize,
@@ -25,15 +25,15 @@ fn accept_book(r: &[u8], b: &[i32]) -> Result<Accepted, Refusal>
 {
     let k = record::carried_k(r);
     asked::counted_number(b, k)?;
-    let z = book::read_sizes(b);
-    let mut costs = listing::no_costs();
-    let mut plans = listing::no_plans();
-    let n = listing::fill(b, k, &mut costs, &mut plans);
-    if n == 0 {
+    let list = listing::list(b, k);
+    if list.n == 0 {
         return Err(Refusal::NoPlan);
     }
-    record::tail_number(r, n, z.s, &costs, &plans)?;
-    Ok(Accepted { s: z.s, k: n })
+    record::tail_number(r, &list)?;
+    Ok(Accepted {
+        s: list.s,
+        k: list.n,
+    })
 }
 
 // Any bytes: are they the record that is written for the book and the count they carry?
@@ -43,16 +43,16 @@ pub fn accept(r: &[u8]) -> Result<Accepted, Refusal>
     ensures count { IfOk result (λ a. a.k ≡ accept_count r.now) }
 {
     record::head_number(r)?;
-    let mut words = record::no_book();
+    let mut words = [0; 4172];
     record::read_book(r, &mut words);
     let w = record::carried_length(r);
-    accept_book(r, &words[0..w])
+    accept_book(r, &words[..w])
 }
 
 // The bytes of policy j, a part of the record; an empty part where the record is not accepted or has no such policy.
 pub fn show(r: &[u8], j: usize) -> &[u8]
     ensures { result.now ≡ shown r.now j }
 {
-    let a = accept(r).unwrap_or(Accepted { s: 0, k: 0 });
+    let a = accept(r).unwrap_or_default();
     place::part(r, a.s, a.k, j)
 }

@@ -46,19 +46,19 @@ pub fn fill_by(
     engine::list_by(b, z, x, k, costs, plans)
 }
 
-// The list by value.
+// The list by value. Inlined, it is made where the caller keeps it, so that no array is copied.
+#[inline(always)]
 pub fn list(b: &[i32], k: usize) -> Listing
     requires { Counted b.now k }
     ensures { Listed b.now k result }
 {
     let z = book::read_sizes(b);
-    let mut costs = no_costs();
-    let mut plans = no_plans();
-    let n = fill(b, k, &mut costs, &mut plans);
-    Listing {
-        n: n,
+    let mut list = Listing {
+        n: 0,
         s: z.s,
-        costs: costs,
-        plans: plans,
-    }
+        costs: [0; 64],
+        plans: [0; 4096],
+    };
+    list.n = fill(b, k, &mut list.costs, &mut list.plans);
+    list
 }

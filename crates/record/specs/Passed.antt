@@ -24,6 +24,9 @@ module _ (bs : List ℕ) where
   start_is = refl
 
   -- 19: "are there 12 bytes, is W at most 4,172, and do 4 × W bytes follow?"
+  abbrev pub head_fits : Bool
+  head_fits = leb 12 (length bs) && leb (carried_length bs) 4172 && leb (list_start bs) (length bs)
+
   pub record RecordHead : Type 0 where
     pub long : 12 ≤ length bs
     pub words : carried_length bs ≤ 4172
@@ -84,7 +87,10 @@ module _ (bs : List ℕ) where
         exact = rw start_is at (eqb-true (length bs) end p.1);
       }
 
-  list_says : (count_is && list_is) ≡ true → RecordList
+  abbrev pub list_fits : Bool
+  list_fits = count_is && list_is
+
+  list_says : list_fits ≡ true → RecordList
   list_says e =
       let t = and-true count_is list_is e in
       record {

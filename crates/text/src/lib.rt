@@ -2,16 +2,10 @@
 // text, which is at most as long as the room that it asks for.
 #![tactic(auto)]
 
-ghost use Rattle.std.specs.Prelude.{◌≡◌, [], ◌∷◌, ◌+◌, ◌*◌, ◌<◌, ◌≤◌, nat_abs, length};
+ghost use Rattle.std.specs.Prelude.{◌≡◌, [], ◌∷◌, ◌+◌, ◌*◌, ◌<◌, ◌≤◌, length};
 ghost use Rattle.model.specs.Lists.{for_each};
 ghost use Rattle.model.specs.Page.{decimal, signed_decimal, choice_text};
 ghost use Rattle.text.specs.Text.{Appended, line_text};
-
-pub fn magnitude(x: i64) -> u64
-    ensures { result ≡ nat_abs x }
-{
-    x.unsigned_abs()
-}
 
 pub fn put_byte(out: &mut [u8], at: usize, x: u8) -> usize
     requires { at < length out.old }

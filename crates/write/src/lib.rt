@@ -14,17 +14,14 @@ pub fn write(b: &[i32], k: usize, out: &mut [u8]) -> Result<usize, Refusal>
     ensures record { out.new ≡ write_record b.now k out.old }
 {
     asked::counted_number(b, k)?;
-    let z = book::read_sizes(b);
-    let mut costs = listing::no_costs();
-    let mut plans = listing::no_plans();
-    let n = listing::fill(b, k, &mut costs, &mut plans);
-    if n == 0 {
+    let list = listing::list(b, k);
+    if list.n == 0 {
         return Err(Refusal::NoPlan);
     }
-    let long = 12 + 4 * b.len() + 8 * n + n * z.s;
+    let long = 12 + 4 * b.len() + 8 * list.n + list.n * list.s;
     if out.len() < long {
         return Err(Refusal::RecordRoom);
     }
-    record::put_record(b, k, n, z.s, &costs, &plans, out);
+    record::put_record(b, k, &list, out);
     Ok(long)
 }

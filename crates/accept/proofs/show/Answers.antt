@@ -2,9 +2,11 @@
 -- Assumes nothing.
 use mathlib.Core.Path.{◌∙◌}
 use Rattle.place.specs.Place.{browsed-shown}
+use Rattle.accept.proofs.Figures.{figures}
 use Rattle.accept.proofs.show.Goals as goal
 
 pub returns : goal.returns
 returns c =
-    let a = c.accept-a.ensures in
-    c.part.ensures ∙ browsed-shown _ _ a.1 a.2
+    let a = c.accept.ensures in
+    let f = figures _ c.args.r.now a.number a.states a.count c.unwrap_or_default-a.ensures in
+    c.part.ensures ∙ browsed-shown _ _ f.0 f.1

@@ -10,4 +10,4 @@ read_sizes-z-requires c = headed _ c.requires.ok
 pub returns : goal.returns
 returns c =
     let f = c in
-    by_states f.read_sizes-z.ensures.s_is f.fill-n.ensures
+    by_states f.read_sizes-z.ensures.s_is f.fill.ensures

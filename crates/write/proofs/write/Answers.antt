@@ -1,106 +1,92 @@
 -- The questions in order, the list, and the record of it. A list of no policy is question 28. The length is asked before a byte is written.
 -- Assumes nothing.
 use mathlib.Core.Path.{◌≡◌, sym, ◌∙◌}
+use mathlib.Core.List.{List}
+use Prim.Native.Nat.{ℕ, ◌≤◌, ◌<◌}
 use native.Mathlib.Omega.{arith}
 use borrow.Author.Tests.{le-leb, lt-leb}
 use lib.ListN.{length}
+use Rattle.std.proofs.lemmas.Result.{err_from_is_err_and}
+use Rattle.model.specs.Model.{Words}
 use Rattle.model.specs.Record.{record_bytes}
 use Rattle.model.specs.Calls.{write_number, write_length, write_record}
 use Rattle.questions.specs.FirstNo.{fails, passes, none}
 use Rattle.questions.specs.Answers.{stops, goes_on, leaves, gives}
-use Rattle.asked.specs.Asked.{counted_says, counted_stops, list_none, list_some, asked_passed}
-use Rattle.index.proofs.Lines.{headed}
-use Rattle.record.specs.Lengths.{book-length}
+use Rattle.refusal.specs.Refusal.{some_number}
+use Rattle.asked.specs.Asked.{Asked, Counted, counted_number, counted_says, counted_stops, list_none, list_some, asked_passed}
+use Rattle.record.specs.declared.Listing.{Listing}
+use Rattle.record.specs.Listed.{Listed}
 use Rattle.record.proofs.Parts.{record_long}
-use Rattle.listing.proofs.Listed.{by_states}
 use Rattle.write.proofs.write.Goals as goal
 
-pub returns-then-no-ne0 : goal.returns-then-no-ne0
-unfolding write_number write_length write_record
-returns-then-no-ne0 c =
-    let n = c.counted_number-no.ensures in
-    let h = c.if-no-ne0.true in
-    let e = stops (n ∙ counted_stops _ _ (λ z. h (n ∙ z))) _ h in
-    (e, leaves e h _ _, leaves e h _ _)
+module _ (ws : Words) (k : ℕ) where
+  -- past 1 to 14 the length of the list says whether there is a policy
+  module _ (counted : 0 ≡ counted_number ws k) {l : Listing} (list : Listed ws k l) where
+    says : Counted ws k
+    says = counted_says ws k (sym counted)
 
-pub read_sizes-z-requires : goal.read_sizes-z-requires
-read_sizes-z-requires c = headed _ (counted_says _ _ (sym c.counted_number-no.ensures ∙ c.if-no-ne0.false)).ok
+    asked : (l.n ≡ 0 → ⊥) → Asked ws k
+    asked some = list_some ws k says list.count some
 
-pub no_costs-costs-requires : goal.no_costs-costs-requires
-no_costs-costs-requires c = tt
+  module _ (o : List ℕ) where
+    -- a refusal writes nothing
+    untouched : {n : ℕ} → n ≡ write_number ws k (length o) → (n ≡ 0 → ⊥) → o ≡ write_record ws k o
+    unfolding write_record
+    untouched e h = leaves e h _ _
 
-pub no_plans-plans-requires : goal.no_plans-plans-requires
-no_plans-plans-requires c = tt
+    stopped : {n : ℕ} → n ≡ counted_number ws k → (n ≡ 0 → ⊥) → n ≡ write_number ws k (length o)
+    unfolding write_number
+    stopped e h = stops (e ∙ counted_stops ws k (λ z. h (e ∙ z))) _ h
 
-pub fill-n-requires : goal.fill-n-requires
-fill-n-requires c =
-    (counted_says _ _ (sym c.counted_number-no.ensures ∙ c.if-no-ne0.false), c.no_costs-costs.ensures, c.no_plans-plans.ensures)
+    module _ (counted : 0 ≡ counted_number ws k) {l : Listing} (list : Listed ws k l) where
+      empty : l.n ≡ 0 → 28 ≡ write_number ws k (length o)
+      unfolding write_number
+      empty z = stops (sym (list_none ws k (says counted list) list.count z)) _ (omega arith)
 
-pub returns-then-n-eq0 : goal.returns-then-n-eq0
-unfolding write_number write_length write_record
-returns-then-n-eq0 c =
-    let counted = counted_says _ _ (sym c.counted_number-no.ensures ∙ c.if-no-ne0.false) in
-    let e = stops (sym (list_none _ _ counted c.fill-n.ensures.count c.if-n-eq0.true)) _ (omega arith) in
-    (e, leaves e (omega arith) _ _, leaves e (omega arith) _ _)
+      module _ (some : l.n ≡ 0 → ⊥) where
+        short : length o < length (record_bytes ws k) → 18 ≡ write_number ws k (length o)
+        unfolding write_number
+        short h = goes_on (asked_passed ws k (asked counted list some)) (sym (fails _ _ _ (lt-leb _ _ h)))
 
--- some policy is listed
-pub overflow_mul-long : goal.overflow_mul-long
-overflow_mul-long c =
-    let counted = counted_says _ _ (sym c.counted_number-no.ensures ∙ c.if-no-ne0.false) in
-    omega (arith, book-length _ counted.ok)
+        room : length (record_bytes ws k) ≤ length o → 0 ≡ write_number ws k (length o)
+        unfolding write_number
+        room h = goes_on (asked_passed ws k (asked counted list some)) (sym (passes _ _ _ (le-leb _ _ h) ∙ none _))
 
-pub overflow_add-long : goal.overflow_add-long
-overflow_add-long c =
-    let counted = counted_says _ _ (sym c.counted_number-no.ensures ∙ c.if-no-ne0.false) in
-    omega (arith, book-length _ counted.ok)
+pub returns-in_err-counted_number : goal.returns-in_err-counted_number
+returns-in_err-counted_number c =
+    let p = err_from_is_err_and c.from_residual.result c.from_residual.ensures.1 in
+    let q = some_number c.in_err-counted_number.field-0.0 in
+    let e = stopped _ _ c.args.out.now c.in_err-counted_number.ensures q in
+    rw (p.1, p.2) (record { number = e; long = tt; «record» = untouched _ _ _ e q })
 
-pub overflow_mul-long-2 : goal.overflow_mul-long-2
-overflow_mul-long-2 c =
-    let h = by_states c.read_sizes-z.ensures.s_is c.fill-n.ensures in
-    omega (arith, h.held.few)
+pub list-list-requires : goal.list-list-requires
+list-list-requires c = counted_says _ _ (sym c.in_ok-counted_number.ensures)
 
-pub overflow_add-long-2 : goal.overflow_add-long-2
-overflow_add-long-2 c =
-    let counted = counted_says _ _ (sym c.counted_number-no.ensures ∙ c.if-no-ne0.false) in
-    let h = by_states c.read_sizes-z.ensures.s_is c.fill-n.ensures in
-    omega (arith, book-length _ counted.ok, h.held.few)
-
-pub overflow_mul-long-3 : goal.overflow_mul-long-3
-overflow_mul-long-3 c =
-    let h = by_states c.read_sizes-z.ensures.s_is c.fill-n.ensures in
-    omega (arith, h.held.small)
-
-pub overflow_add-long-3 : goal.overflow_add-long-3
-overflow_add-long-3 c =
-    let counted = counted_says _ _ (sym c.counted_number-no.ensures ∙ c.if-no-ne0.false) in
-    let h = by_states c.read_sizes-z.ensures.s_is c.fill-n.ensures in
-    omega (arith, book-length _ counted.ok, h.held)
+pub returns-then-list-eq0 : goal.returns-then-list-eq0
+returns-then-list-eq0 c =
+    let e = empty _ _ c.args.out.now c.in_ok-counted_number.ensures c.list-list.ensures c.if-list-eq0.true in
+    record { number = e; long = tt; «record» = untouched _ _ _ e (omega arith) }
 
 pub returns-then-out-long : goal.returns-then-out-long
-unfolding write_number write_length write_record
 returns-then-out-long c =
-    let a = c.args in
-    let counted = counted_says _ _ (sym c.counted_number-no.ensures ∙ c.if-no-ne0.false) in
-    let asked = list_some _ _ counted c.fill-n.ensures.count c.if-n-eq0.false in
-    let long = record_long _ _ _ (by_states c.read_sizes-z.ensures.s_is c.fill-n.ensures) asked.ok in
-    let e : 18 ≡ write_number a.b.now a.k (length a.out.now)
-    = goes_on (asked_passed _ _ asked) (sym (fails _ _ _ (lt-leb (length (record_bytes a.b.now a.k)) _ (omega (arith, c.if-out-long.true, long))))) in
-    (e, leaves e (λ z. omega arith) _ _, leaves e (λ z. omega arith) _ _)
+    let n = c.in_ok-counted_number.ensures in
+    let l = c.list-list.ensures in
+    let ok = asked _ _ n l c.if-list-eq0.false in
+    let e = short _ _ c.args.out.now n l c.if-list-eq0.false (omega (arith, c.if-out-long.true, record_long _ _ _ l ok.ok)) in
+    record { number = e; long = tt; «record» = untouched _ _ _ e (λ z. omega arith) }
 
 pub put_record-requires : goal.put_record-requires
 put_record-requires c =
-    let counted = counted_says _ _ (sym c.counted_number-no.ensures ∙ c.if-no-ne0.false) in
-    let asked = list_some _ _ counted c.fill-n.ensures.count c.if-n-eq0.false in
-    let h = by_states c.read_sizes-z.ensures.s_is c.fill-n.ensures in
-    (asked, h, omega (arith, c.if-out-long.false, record_long _ _ _ h asked.ok))
+    let l = c.list-list.ensures in
+    let ok = asked _ _ c.in_ok-counted_number.ensures l c.if-list-eq0.false in
+    (ok, l, omega (arith, c.if-out-long.false, record_long _ _ _ l ok.ok))
 
 pub returns : goal.returns
-unfolding write_number write_length write_record
+unfolding write_length write_record
 returns c =
-    let a = c.args in
-    let counted = counted_says _ _ (sym c.counted_number-no.ensures ∙ c.if-no-ne0.false) in
-    let asked = list_some _ _ counted c.fill-n.ensures.count c.if-n-eq0.false in
-    let long = record_long _ _ _ (by_states c.read_sizes-z.ensures.s_is c.fill-n.ensures) asked.ok in
-    let e : 0 ≡ write_number a.b.now a.k (length a.out.now)
-    = goes_on (asked_passed _ _ asked) (sym (passes _ _ _ (le-leb (length (record_bytes a.b.now a.k)) _ (omega (arith, c.if-out-long.false, long))) ∙ none _)) in
-    (e, gives (sym e) _ (omega (arith, long)), gives (sym e) _ c.put_record.ensures)
+    let n = c.in_ok-counted_number.ensures in
+    let l = c.list-list.ensures in
+    let ok = asked _ _ n l c.if-list-eq0.false in
+    let long = record_long _ _ _ l ok.ok in
+    let e = room _ _ c.args.out.now n l c.if-list-eq0.false (omega (arith, c.if-out-long.false, long)) in
+    record { number = e; long = gives (sym e) _ (omega (arith, long)); «record» = gives (sym e) _ c.put_record.ensures }
