@@ -23,11 +23,11 @@ pub fn print_record(r: &[u8], out: &mut [u8]) -> usize
     ensures { Put most_page (record_page r.now) out.old out.new result }
 {
     if let Err(q) = accept::accept(r) {
-        return page::put_page(Err(q), &[], 0, out);
+        return page::put_page(u32::from(q), &[], 0, out);
     }
     let mut words = [0; MOST_BOOK];
     record::read_book(r, &mut words);
     let book = &words[..record::carried_length(r)];
     let k = record::carried_k(r);
-    page::put_page(Ok(()), book, k, out)
+    page::put_page(0, book, k, out)
 }

@@ -25,6 +25,6 @@ pub fn file_record(input: &[u8], out: &mut [u8]) -> usize
     let q = input::read(input);
     match write::write(&q.words[..q.n], q.k, out) {
         Ok(n) => n,
-        Err(no) => page_lines::put_refused(out, no),
+        Err(no) => page_lines::put_refusal(out, no),
     }
 }

@@ -42,7 +42,7 @@ fn put_found(out: &mut [u8], found: Result<Standing, Refusal>) -> usize
     ensures { Appended out.old 0 (found_line found) out.new result }
 {
     match found {
-        Err(q) => page_lines::put_refused(out, q),
+        Err(q) => page_lines::put_refusal(out, q),
         Ok(a) => {
             let at = match a {
                 Standing::Rank(_) => text::put_text(out, 0, b"rank "),
@@ -63,7 +63,7 @@ pub fn print_place(input: &[u8], out: &mut [u8]) -> usize
         return 0;
     }
     let Some(end) = plan_end(input) else {
-        return page_lines::put_refused(out, Refusal::TooShort);
+        return page_lines::put_refusal(out, Refusal::TooShort);
     };
     let q = input::read(&input[end..]);
     let words = q.words;

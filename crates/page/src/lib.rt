@@ -6,9 +6,6 @@ ghost use Rattle.model.specs.Page.{or_refused, list_page, page, most_page};
 ghost use Rattle.asked.specs.Asked.{Asked};
 ghost use Rattle.text.specs.Text.{Appended};
 ghost use Rattle.page_lines.specs.Put.{Put};
-ghost use Rattle.refusal.specs.Refusal.{number_in};
-
-use refusal::Refusal;
 
 // No page is longer.
 const MOST_PAGE: usize = 90112;
@@ -31,18 +28,18 @@ fn put_list(b: &[i32], k: usize, out: &mut [u8]) -> usize
     page_lines::put_lines(out, at, l)
 }
 
-// The line of a refusal, or the list: to the front of `out`; gives its length. A slice that may be too short gets nothing.
-pub fn put_page(asked: Result<(), Refusal>, b: &[i32], k: usize, out: &mut [u8]) -> usize
-    requires { number_in asked ≡ 0 → Asked b.now k }
-    ensures { Put most_page (or_refused (number_in asked) (list_page b.now k)) out.old out.new result }
+// The line of a refusal, by its number, which may be any, or for 0 the list: to the front of `out`; gives its length. A slice that may be too short gets nothing.
+pub fn put_page(no: u32, b: &[i32], k: usize, out: &mut [u8]) -> usize
+    requires { no ≡ 0 → Asked b.now k }
+    ensures { Put most_page (or_refused no (list_page b.now k)) out.old out.new result }
 {
     if out.len() < MOST_PAGE {
         return 0;
     }
-    match asked {
-        Ok(()) => put_list(b, k, out),
-        Err(q) => page_lines::put_refused(out, q),
+    if no != 0 {
+        return page_lines::put_refused(out, no);
     }
+    put_list(b, k, out)
 }
 
 // The page of any input.
@@ -51,5 +48,6 @@ pub fn print_page(input: &[u8], out: &mut [u8]) -> usize
 {
     let q = input::read(input);
     let book = &q.words[..q.n];
-    put_page(asked::asked_number(book, q.k), book, q.k, out)
+    let asked = asked::asked_number(book, q.k);
+    put_page(refusal::number(&asked), book, q.k, out)
 }

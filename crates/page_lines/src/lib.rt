@@ -22,12 +22,20 @@ pub fn line_buffer() -> [u8; MOST_LINE]
 }
 
 // The line of a refusal.
-pub fn put_refused(out: &mut [u8], q: Refusal) -> usize
+pub fn put_refusal(out: &mut [u8], q: Refusal) -> usize
     requires { most_line ≤ length out.old }
     ensures { Appended out.old 0 (refused_line (number_of q)) out.new result }
 {
+    put_refused(out, u32::from(q))
+}
+
+// The same by its number, which may be any.
+pub fn put_refused(out: &mut [u8], no: u32) -> usize
+    requires { most_line ≤ length out.old }
+    ensures { Appended out.old 0 (refused_line no) out.new result }
+{
     let a = text::put_text(out, 0, b"refused ");
-    let b = text::put_number(out, a, u64::from(u32::from(q)));
+    let b = text::put_number(out, a, u64::from(no));
     text::put_byte(out, b, 10)
 }
 

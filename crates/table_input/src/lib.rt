@@ -32,7 +32,7 @@ fn convert_counted(r: &[u8], out: &mut [u8]) -> usize
     ensures { Put most_book (book_bytes r.now) out.old out.new result }
 {
     if r.len() % 4 != 0 {
-        return page_lines::put_refused(out, Refusal::TableSizes);
+        return page_lines::put_refusal(out, Refusal::TableSizes);
     }
     let n = r.len() / 4;
     let mut words = [0; 4118];
@@ -44,7 +44,7 @@ fn convert_counted(r: &[u8], out: &mut [u8]) -> usize
             bytes_io::write_words(out, 0, &book[..length]);
             4 * length
         }
-        Err(q) => page_lines::put_refused(out, q),
+        Err(q) => page_lines::put_refusal(out, q),
     }
 }
 

@@ -19,8 +19,9 @@ use Rattle.filed_page.proofs.print_record.Goals as goal
 pub returns-in-Err : goal.returns-in-Err
 unfolding record_page
 returns-in-Err c =
-    let e : number_of c.in-Err.q ≡ accept_number c.args.r.now = search rules in
-    put_same e (λ z. absurd (some_number c.in-Err.q (e ∙ z))) c.put_page.ensures
+    let q : number_of c.in-Err.q ≡ accept_number c.args.r.now = search rules in
+    let e : c.from.result ≡ accept_number c.args.r.now = c.from.ensures ∙ q in
+    put_same e (λ z. absurd (some_number c.in-Err.q (q ∙ z))) c.put_page.ensures
 
 good : (r : List ℕ) → 0 ≡ accept_number r → AcceptedRecord r
 good r e = accept_says r (sym e)

@@ -63,4 +63,4 @@ returns-in-Ok c = of_input c.read-q.ensures (written _ _ _ (omega arith) c.in-Ok
 pub returns-in-Err : goal.returns-in-Err
 returns-in-Err c =
     of_input c.read-q.ensures
-    (refused _ _ _ (omega arith) c.in-Err.ensures.number (some_number c.in-Err.no) c.in-Err.ensures.record c.put_refused.ensures)
+    (refused _ _ _ (omega arith) c.in-Err.ensures.number (some_number c.in-Err.no) c.in-Err.ensures.record c.put_refusal.ensures)

@@ -20,7 +20,7 @@ returns-then-end-eq0 c =
     let y = c in
     let t = y in
     let e = nothing _ _ t.plan_end-end.ensures _ t.if-end-eq0.true (omega arith) in
-    put_refused _ (omega (arith, t.if-out-lt-MOST_LINE.false)) 1 e (omega arith) y.put_refused.ensures
+    put_refused _ (omega (arith, t.if-out-lt-MOST_LINE.false)) 1 e (omega arith) y.put_refusal.ensures
 
 -- the plan is not cut short
 module _ (c : goal.Else-end-eq0) where

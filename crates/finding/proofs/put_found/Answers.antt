@@ -20,7 +20,7 @@ pub returns-then-f-ne0 : goal.returns-then-f-ne0
 unfolding found_line
 returns-then-f-ne0 c =
     let y = c in
-    spoken (is_refused _ _ y.if-f-ne0.true) y.put_refused.ensures
+    spoken (is_refused _ _ y.if-f-ne0.true) y.put_refusal.ensures
 
 -- every word has five bytes
 short : (a : ℕ) {o o' : List ℕ} {r : ℕ} → Appended o 0 (word_of a) o' r → r ≤ 5

@@ -7,10 +7,10 @@ use Rattle.page_lines.specs.Put.{put_same}
 use Rattle.page.proofs.print_page.Goals as goal
 
 pub put_page-requires : goal.put_page-requires
-put_page-requires c z = asked_says _ _ (sym c.asked_number.ensures ∙ z)
+put_page-requires c z = asked_says _ _ (sym c.asked_number-asked.ensures ∙ (sym c.number.ensures ∙ z))
 
 pub returns : goal.returns
 unfolding page
 returns c =
     let h = c.read-q.ensures in
-    put_same (c.asked_number.ensures ∙ h.number) (λ z. ap₂ list_page (h.words z) (h.count z)) c.put_page.ensures
+    put_same (c.number.ensures ∙ c.asked_number-asked.ensures ∙ h.number) (λ z. ap₂ list_page (h.words z) (h.count z)) c.put_page.ensures

@@ -56,7 +56,7 @@ module _ (c : goal.In-Ok) where
 pub returns-then-r-ne0 : goal.returns-then-r-ne0
 unfolding book_bytes
 returns-then-r-ne0 c =
-    put_refused _ c.requires.1 25 (left_over c.args.r.now c.requires.0 c.if-r-ne0.true) (λ z. omega arith) c.put_refused.ensures
+    put_refused _ c.requires.1 25 (left_over c.args.r.now c.requires.0 c.if-r-ne0.true) (λ z. omega arith) c.put_refusal.ensures
 
 pub slice_bounds-book-end : goal.slice_bounds-book-end
 slice_bounds-book-end c = (book_at (goal.at.slice_bounds-book-end c).In-Ok).0
@@ -82,4 +82,4 @@ returns-in-Ok c =
 pub returns-in-Err : goal.returns-in-Err
 unfolding book_bytes
 returns-in-Err c =
-    put_refused _ c.requires.1 (number_of c.in-Err.q) (number (goal.at.returns-in-Err c).In-Err) (some_number c.in-Err.q) c.put_refused-in-Err.ensures
+    put_refused _ c.requires.1 (number_of c.in-Err.q) (number (goal.at.returns-in-Err c).In-Err) (some_number c.in-Err.q) c.put_refusal-in-Err.ensures
