@@ -26,14 +26,8 @@ pub fn buffer() -> [u8; MOST_FIND]
 fn plan_end(input: &[u8]) -> Option<usize>
     ensures { result ≡ end_ahead (1 + get_or input.now 0 0) input.now }
 {
-    if input.len() < 1 {
-        return None;
-    }
-    let n = usize::from(input[0]);
-    if input.len() <= n {
-        return None;
-    }
-    Some(n + 1)
+    let end = usize::from(*input.first()?) + 1;
+    (end <= input.len()).then_some(end)
 }
 
 // The line of what was found.
@@ -66,7 +60,6 @@ pub fn print_place(input: &[u8], out: &mut [u8]) -> usize
         return page_lines::put_refusal(out, Refusal::TooShort);
     };
     let q = input::read(&input[end..]);
-    let words = q.words;
-    let found = find::find(&words[..q.n], q.k, &input[1..end]);
+    let found = find::find(&q.words[..q.n], q.k, &input[1..end]);
     put_found(out, found)
 }

@@ -9,41 +9,35 @@ use Rattle.page_lines.specs.Put.{too_short, put_refused}
 use Rattle.input.specs.Ahead.{ends, nothing, part_is, rest-is}
 use Rattle.finding.proofs.Found.{print}
 use Rattle.finding.proofs.print_place.Goals as goal
-use Rattle.finding.proofs.print_place.Goals.{Else-end-eq0}
 
 pub returns-then-out-lt-MOST_LINE : goal.returns-then-out-lt-MOST_LINE
 returns-then-out-lt-MOST_LINE c = too_short most_line _ _ c.if-out-lt-MOST_LINE.true
 
-pub returns-then-end-eq0 : goal.returns-then-end-eq0
+pub returns-in_default : goal.returns-in_default
 unfolding plan_line plan_number after_plan
-returns-then-end-eq0 c =
-    let y = c in
-    let t = y in
-    let e = nothing _ _ t.plan_end-end.ensures _ t.if-end-eq0.true (omega arith) in
-    put_refused _ (omega (arith, t.if-out-lt-MOST_LINE.false)) 1 e (omega arith) y.put_refusal.ensures
-
--- the plan is not cut short
-module _ (c : goal.Else-end-eq0) where
-  end : (c.plan_end-end.result ≡ 1 + get_or c.args.input.now 0 0)
-      × (c.plan_end-end.result ≤ length c.args.input.now)
-  end = ends _ _ c.plan_end-end.ensures c.if-end-eq0.false
+returns-in_default c =
+    let e = nothing _ _ _ c.in_default.ensures in
+    put_refused _ (omega (arith, c.if-out-lt-MOST_LINE.false)) 1 e (omega arith) c.put_refusal.ensures
 
 pub slice_bounds-read-count : goal.slice_bounds-read-count
-slice_bounds-read-count c = omega (arith, (end c).1)
+slice_bounds-read-count c = (ends _ _ c.in-Some.ensures).1
 
 pub slice_bounds-read-start : goal.slice_bounds-read-start
-slice_bounds-read-start c = omega (arith, (end c).1)
+slice_bounds-read-start c = (ends _ _ c.in-Some.ensures).1
+
+pub slice_bounds-find-count : goal.slice_bounds-find-count
+slice_bounds-find-count c = omega (arith, (ends _ _ c.in-Some.ensures).0)
+
+pub slice_bounds-find-start : goal.slice_bounds-find-start
+slice_bounds-find-start c = omega (arith, (ends _ _ c.in-Some.ensures).0)
 
 pub slice_bounds-find-end-2 : goal.slice_bounds-find-end-2
-slice_bounds-find-end-2 c = omega (arith, (end (goal.at.slice_bounds-find-end-2 c).Else-end-eq0).1)
+slice_bounds-find-end-2 c = (ends _ _ c.in-Some.ensures).1
 
 pub returns : goal.returns
 unfolding after_plan input_plan
 returns c =
-    let y = c in
-    let f = y in
-    let r = f in
-    let e = r in
-    let z = (end (goal.at.returns e).Else-end-eq0).0 in
-    let input = e.args.input.now in
-    print input (rest-is _ input z) (part_is 1 _ input z) r.read-q.ensures f.find-f.ensures (omega (arith, e.if-out-lt-MOST_LINE.false)) y.put_found.ensures
+    let input = c.args.input.now in
+    let z = (ends _ _ c.in-Some.ensures).0 in
+    print input c.find-found.result (rest-is _ input z) (part_is 1 _ input z) c.read-q.ensures c.find-found.ensures.number c.find-found.ensures.answer
+    (omega (arith, c.if-out-lt-MOST_LINE.false)) c.put_found.ensures

@@ -1,46 +1,29 @@
 -- The refusal, or the word, the value and the line feed.
 -- Assumes nothing.
-use mathlib.Core.Path.{ap}
-use mathlib.Core.List.{List}
-use Prim.Native.Nat.{ℕ, ◌≤◌}
-use native.Mathlib.Omega.{arith}
-use lib.IntN.{pos}
+use mathlib.Core.Path.{sym, ap}
 use mir.Syntax.{w64}
 use mir.Val.{SFits}
 use mir.Facts.{to_z-of_z}
-use Rattle.model.specs.Standing.{is_rank, costs_more, takes_higher}
-use Rattle.model.specs.Page.{signed_decimal, answer_word}
+use Rattle.std.proofs.Common.{rules}
+use Rattle.model.specs.Page.{answer_word, answer_line}
 use Rattle.text.specs.Text.{Appended, joined}
-use Rattle.page_lines.specs.Put.{is_refused, is_due, length_of}
-use Rattle.finding.specs.Line.{word_of, found_line}
 use Rattle.text.proofs.Steps.{spoken}
+use Rattle.find.specs.Says.{says}
+use Rattle.finding.specs.Line.{found_line}
 use Rattle.finding.proofs.put_found.Goals as goal
+use Rattle.finding.proofs.put_found.Goals.{Joined-a, in-Rank, in-CostsMore, in-TakesHigher}
 
-pub returns-then-f-ne0 : goal.returns-then-f-ne0
-unfolding found_line
-returns-then-f-ne0 c =
-    let y = c in
-    spoken (is_refused _ _ y.if-f-ne0.true) y.put_refusal.ensures
+-- the word is that of the answer
+word : (c : Joined-a) → Appended c.args.out.now 0 (answer_word (says c.in-Ok.a)) c.match-a.out c.match-a.at
+word c = elim c.match-a.branch [
+  in-Rank w ↦ rw (w.out-is, w.at-is, w.in-Rank.is) w.put_text-at.ensures
+  | in-CostsMore w ↦ rw (w.out-is, w.at-is, w.in-CostsMore.is) w.put_text-at-in-CostsMore.ensures
+  | in-TakesHigher w ↦ rw (w.out-is, w.at-is, w.in-TakesHigher.is) w.put_text-at-in-TakesHigher.ensures
+]
 
--- every word has five bytes
-short : (a : ℕ) {o o' : List ℕ} {r : ℕ} → Appended o 0 (word_of a) o' r → r ≤ 5
-short a p = omega (arith, p.end, length_of a (answer_word (is_rank 0)) (answer_word (costs_more (pos 0))) (answer_word (takes_higher 0)) {most = 5} (omega arith) (omega arith) (omega arith))
-
-pub put_signed-b-requires : goal.put_signed-b-requires
-put_signed-b-requires c = omega (arith, short _ c.put_one_of-a.ensures)
-
-pub put_byte-requires : goal.put_byte-requires
-put_byte-requires c =
-    let g = c in
-    omega (arith, short _ g.put_one_of-a.ensures, g.put_signed-b.ensures.1)
-
-pub returns : goal.returns
-unfolding found_line
-returns c =
-    let y = c in
-    let g = y in
-    let w = g in
-    let a = w.args in
-    let fit : SFits w64 a.f.value = record { sfits = g.struct_told-1.given.1.1.0.1 } in
-    spoken (is_due _ _ w.if-f-ne0.false)
-    (joined (joined w.put_one_of-a.ensures (spoken (ap signed_decimal (to_z-of_z fit)) g.put_signed-b.ensures.0)) y.put_byte.ensures)
+pub returns-after-a : goal.returns-after-a
+unfolding answer_line
+returns-after-a c =
+    let fit : SFits w64 c.value.result = search rules in
+    let value = rw (to_z-of_z fit, c.value.ensures) at c.put_signed-end.ensures.0 in
+    spoken (ap found_line (sym c.in-Ok.is)) (joined (joined (word (goal.at.returns-after-a c).Joined-a) value) c.put_byte.ensures)
