@@ -26,16 +26,11 @@ pub fn buffer() -> [u8; MOST_LIMIT]
 fn marks_end(input: &[u8]) -> Option<usize>
     ensures { result ≡ end_ahead (3 + mark_count input.now) input.now }
 {
-    if input.len() < 3 {
+    let [_, low, high, ..] = input else {
         return None;
-    }
-    let low = usize::from(input[1]);
-    let high = usize::from(input[2]);
-    let end = low + 256 * high + 3;
-    if input.len() < end {
-        return None;
-    }
-    Some(end)
+    };
+    let end = usize::from(*low) + 256 * usize::from(*high) + 3;
+    (end <= input.len()).then_some(end)
 }
 
 // The line of an answer.
@@ -67,7 +62,6 @@ pub fn print_limit(input: &[u8], out: &mut [u8]) -> usize
     };
     let m = usize::from(input[0]);
     let q = input::read(&input[end..]);
-    let words = q.words;
-    let limited = limit::limit(&words[..q.n], q.k, &input[3..end], m);
+    let limited = limit::limit(&q.words[..q.n], q.k, &input[3..end], m);
     put_limited(out, limited)
 }

@@ -1,13 +1,18 @@
 -- The input ends before the marks do, or after them.
 -- Assumes nothing.
-use mathlib.Core.Path.{◌≡◌, refl}
+use mathlib.Core.Path.{◌≡◌, refl, ap, ◌∙◌}
+use mathlib.Core.Bool.{Bool, true, false, cond}
 use mathlib.Core.List.{List}
-use Prim.Native.Nat.{ℕ, ◌+◌, ◌*◌, ◌≤◌}
+use Prim.Native.Nat.{ℕ, ◌+◌, ◌*◌, ◌≤◌, ◌<◌}
 use native.Mathlib.Omega.{arith}
+use lib.Dec.{leb}
 use lib.ListN.{length, get_or}
+use Rattle.std.specs.Prelude.{Option, Some, None}
+use Rattle.std.specs.Bool.{then_some}
+use Rattle.std.proofs.lemmas.Grind.{common_steps}
 use Rattle.model.specs.Page.{mark_count}
 use Rattle.bytes_io.proofs.Parts.{part_step}
-use Rattle.input.specs.Ahead.{cut_short, whole}
+use Rattle.input.specs.Ahead.{end_ahead, cut_short}
 use Rattle.limiting.proofs.marks_end.Goals as goal
 
 two_bytes : (input : List ℕ) → 3 ≤ length input → mark_count input ≡ get_or input 1 0 + 256 * get_or input 2 0
@@ -19,20 +24,15 @@ two_bytes input h =
     )
     (omega arith)
 
-pub returns-then-input-lt3 : goal.returns-then-input-lt3
-returns-then-input-lt3 c = cut_short _ _ (omega arith)
+pub returns-in_default : goal.returns-in_default
+returns-in_default c = cut_short _ _ (omega arith)
 
-pub returns-then-input-end : goal.returns-then-input-end
-returns-then-input-end c =
-    let w = c in
-    let v = w in
-    let input = v.args.input.now in
-    cut_short _ input (omega (arith, w.wide-high.ensures.0, v.wide-low.ensures.0, two_bytes input (omega arith)))
+then_is : (b : Bool) (n : ℕ) → then_some b n ≡ cond b (Some n) None
+then_is true n = refl
+then_is false n = refl
 
 pub returns : goal.returns
+unfolding end_ahead
 returns c =
-    let w = c in
-    let v = w in
-    let input = v.args.input.now in
-    let e = two_bytes input (omega arith) in
-    whole _ input (omega (arith, w.wide-high.ensures.0, v.wide-low.ensures.0, e)) (omega (arith, w.wide-high.ensures.0, v.wide-low.ensures.0, e))
+    let e : c.from.result + 256 * c.from-2.result + 3 ≡ 3 + mark_count c.args.input.now = omega (arith, two_bytes c.args.input.now (omega arith)) in
+    c.then_some.ensures ∙ then_is _ _ ∙ ap (λ (n : ℕ). cond (leb n (length c.args.input.now)) (Some n) None) e
