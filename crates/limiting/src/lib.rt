@@ -39,7 +39,7 @@ fn put_limited(out: &mut [u8], limited: Result<Kept, Refusal>) -> usize
     ensures { Appended out.old 0 (limited_line limited) out.new result }
 {
     match limited {
-        Err(q) => page_lines::put_refused(out, q),
+        Err(q) => page_lines::put_refusal(out, q),
         Ok(Kept::NoneListed) => text::put_text(out, 0, b"none in the list\n"),
         Ok(Kept::NoneInBook) => text::put_text(out, 0, b"none in the book\n"),
         Ok(Kept::Rank(j)) => {
@@ -58,7 +58,7 @@ pub fn print_limit(input: &[u8], out: &mut [u8]) -> usize
         return 0;
     }
     let Some(end) = marks_end(input) else {
-        return page_lines::put_refused(out, Refusal::TooShort);
+        return page_lines::put_refusal(out, Refusal::TooShort);
     };
     let m = usize::from(input[0]);
     let q = input::read(&input[end..]);

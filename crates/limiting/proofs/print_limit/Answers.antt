@@ -18,7 +18,7 @@ pub returns-in_default : goal.returns-in_default
 unfolding limit_line marks_number after_marks
 returns-in_default c =
     let e = nothing _ _ _ c.in_default.ensures in
-    put_refused _ (omega (arith, c.if-out-lt-MOST_LINE.false)) 1 e (omega arith) c.put_refused.ensures
+    put_refused _ (omega (arith, c.if-out-lt-MOST_LINE.false)) 1 e (omega arith) c.put_refusal.ensures
 
 pub bounds-input-0 : goal.bounds-input-0
 bounds-input-0 c = let e = ends _ _ c.in-Some.ensures in omega (arith, e.0, e.1)
