@@ -1,10 +1,11 @@
--- A text at the front of a lent slice that has enough places, nothing in a shorter one; and the line of a refusal in place of what is due.
+-- A text at the front of a lent slice that has enough places, nothing in a shorter one; the line of a refusal in place of what is due; and the text of an
+-- answer.
 -- Assumes nothing.
-use Rattle.std.specs.Prelude.{◌≡◌, refl, Bool, List, ℕ, zero, suc, ◌≤◌, ◌<◌, leb, take, drop}
+use Rattle.std.specs.Prelude.{◌≡◌, refl, Bool, List, ℕ, zero, suc, ◌≤◌, ◌<◌, leb, eqb, take, drop}
 use Rattle.std.proofs.Common.{sym, ◌∙◌, zero-add, arith, length-take-le}
 use Rattle.std.proofs.Math.Path.{ap}
 use Rattle.std.proofs.Math.Bool.{true, false, cond}
-use borrow.Author.Tests.{le-leb, lt-leb}
+use borrow.Author.Tests.{le-leb, lt-leb, eq-eqb, ne_eqb}
 use Rattle.std.proofs.Math.ListN.{length, length-append}
 use Rattle.model.specs.Calls.{over}
 use Rattle.model.specs.Page.{refused_line, or_refused, put_length, put_slice}
@@ -71,3 +72,30 @@ pub put_same : {most m n : ℕ} {due due' out out' : List ℕ} {r : ℕ} → m �
     → Put most (or_refused n due') out out' r
 put_same {n = zero} e d p = rw (e, d refl) at p
 put_same {n = suc n} e d p = rw e at p
+
+-- the text of an answer, of those of the answers 1, 2 and 3
+unfoldable pub one_of : ℕ → List ℕ → List ℕ → List ℕ → List ℕ
+one_of a t u v = cond (eqb a 1) t (cond (eqb a 2) u v)
+
+module _ (a : ℕ) (t u v : List ℕ) where
+  pub first_of : a ≡ 1 → t ≡ one_of a t u v
+  unfolding one_of
+  first_of e = rw (eq-eqb a 1 e)
+
+  pub second_of : (a ≡ 1 → ⊥) → a ≡ 2 → u ≡ one_of a t u v
+  unfolding one_of
+  second_of h e = rw (ne_eqb a 1 h, eq-eqb a 2 e)
+
+  pub third_of : (a ≡ 1 → ⊥) → (a ≡ 2 → ⊥) → v ≡ one_of a t u v
+  unfolding one_of
+  third_of h i = rw (ne_eqb a 1 h, ne_eqb a 2 i)
+
+  -- it is no longer than the longest
+  pub length_of : {most : ℕ} → length t ≤ most → length u ≤ most → length v ≤ most → length (one_of a t u v) ≤ most
+  unfolding one_of
+  length_of {most} h i j = go (eqb a 1) (eqb a 2)
+    where
+      go : (b c : Bool) → length (cond b t (cond c u v)) ≤ most
+      go true c = h
+      go false true = i
+      go false false = j
