@@ -5,8 +5,6 @@ ghost use Rattle.std.specs.Prelude.{◌≡◌};
 ghost use Rattle.model.specs.Calls.{accept_states, accept_count, shown};
 ghost use Rattle.place.specs.Place.{browsed};
 
-use accept::Accepted;
-
 // The bytes of a record, how many states its book has (s) and how many policies it lists (k). `open` gives both as 0 unless the record is accepted.
 #[derive(Clone, Copy)]
 pub struct Browser<'a> {
@@ -16,10 +14,10 @@ pub struct Browser<'a> {
 }
 
 // The record is accepted or refused once, and its bytes are kept with the two figures, so that no policy asks for that again.
-pub fn open<'a>(r: &'a [u8]) -> Browser<'a>
+pub fn open(r: &[u8]) -> Browser<'_>
     ensures { (result.record ≡ r.entry) × (result.s ≡ accept_states r.now) × (result.k ≡ accept_count r.now) }
 {
-    let a = accept::accept(r).unwrap_or(Accepted { s: 0, k: 0 });
+    let a = accept::accept(r).unwrap_or_default();
     Browser {
         record: r,
         s: a.s,
@@ -28,14 +26,14 @@ pub fn open<'a>(r: &'a [u8]) -> Browser<'a>
 }
 
 // S: how many bytes each policy has.
-pub fn states<'a>(w: Browser<'a>) -> usize
+pub fn states(w: Browser<'_>) -> usize
     ensures { result ≡ w.entry.s }
 {
     w.s
 }
 
 // k: how many policies there are to browse.
-pub fn count<'a>(w: Browser<'a>) -> usize
+pub fn count(w: Browser<'_>) -> usize
     ensures { result ≡ w.entry.k }
 {
     w.k
@@ -48,7 +46,7 @@ pub fn plan<'a>(w: Browser<'a>, j: usize) -> &'a [u8]
     place::part(w.record, w.s, w.k, j)
 }
 
-// Policy j of any bytes, through a browser. Its parameters are plain, so its callers need no walk by hand.
+// Policy j of any bytes, through a browser.
 pub fn browse(r: &[u8], j: usize) -> &[u8]
     ensures { result.now ≡ shown r.now j }
 {

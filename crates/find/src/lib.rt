@@ -87,11 +87,5 @@ pub fn find(b: &[i32], k: usize, plan: &[u8]) -> Result<Standing, Refusal>
     if let Some(j) = place_in(&plans, n, plan) {
         return Ok(Standing::Rank(j as u8 + FIRST_RANK));
     }
-    Ok(beside_last(
-        &plans,
-        (n - 1) * plan.len(),
-        costs[n - 1],
-        plan,
-        cost,
-    ))
+    Ok(beside_last(&plans, (n - 1) * plan.len(), costs[n - 1], plan, cost))
 }

@@ -16,7 +16,7 @@ use Rattle.finding.proofs.put_found.Goals.{Joined-a, in-Rank, in-CostsMore, in-T
 -- the word is that of the answer
 word : (c : Joined-a) → Appended c.args.out.now 0 (answer_word (says c.in-Ok.a)) c.match-a.out c.match-a.at
 word c = elim c.match-a.branch [
-  in-Rank w ↦ rw (w.out-is, w.at-is, w.in-Rank.is) w.put_text-at.ensures
+  | in-Rank w ↦ rw (w.out-is, w.at-is, w.in-Rank.is) w.put_text-at.ensures
   | in-CostsMore w ↦ rw (w.out-is, w.at-is, w.in-CostsMore.is) w.put_text-at-in-CostsMore.ensures
   | in-TakesHigher w ↦ rw (w.out-is, w.at-is, w.in-TakesHigher.is) w.put_text-at-in-TakesHigher.ensures
 ]

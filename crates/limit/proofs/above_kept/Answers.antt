@@ -49,7 +49,7 @@ module _ (ws : Words) (marks : List ℕ) (m : ℕ) (plans : List ℕ) (s : ℕ) 
   place_is : (n : ℕ) (r : Option ℕ)
       → MatchOption r ((k : ℕ) → 0 ≤ k → k < n → m < most_at k) (λ j. (0 ≤ j) × (j < n) × (most_at j ≤ m) × ((k : ℕ) → 0 ≤ k → k < j → m < most_at k))
       → MatchOption r (first_where test (parts plans (state_count ws) 0 n) ≡ n)
-        (λ j. (j ≡ first_where test (parts plans (state_count ws) 0 n)) × (j < n))
+      (λ j. (j ≡ first_where test (parts plans (state_count ws) 0 n)) × (j < n))
   place_is n None h = nowhere plans (state_count ws) test 0 n (λ k a b. keeps k ∙ lt-leb (most_at k) m (h k a (omega arith)))
   place_is n (Some j) h = (
     sym (first plans (state_count ws) test 0 n j j (omega arith) h.1 (λ k a b. keeps k ∙ lt-leb (most_at k) m (h.3 k a b)) (keeps j ∙ le-leb (most_at j) m h.2)),
