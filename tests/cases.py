@@ -597,6 +597,12 @@ def filled_desks():
         yield 'a desk that no call made, %d' % n, fill(k, held, committed) + calls + opened(2) + ask(1, 1)
 
 
+def filled_with_nothing():
+    """A filling of no bytes cancels for rider 0, and leaves all else of the desk."""
+    nothing = [Command('fill', OUT, OUT)]
+    yield 'a desk filled with no bytes', opened(3) + joined(ask(0, 1), ask(1, 2), commit(1)) + nothing + joined(commit(0), ask(2, 2), ask(2, 1))
+
+
 def desk_cases():
     for title, calls in [*desk_rules(), *desk_limits()]:
         yield 'desk: ' + title, opened(3) + calls
@@ -1525,6 +1531,7 @@ def stored():
     cases += made(small_tours(), small_book_cases(), small_order_cases(), small_question_cases(), near_limit_cases(), small_list_cases())
     cases += largest_small_cases()
     cases += drawn(DRAWN_SMALL, sum(sum(counts.values()) for counts in (*before, DRAWN_FIND, DRAWN_LIMIT)))
+    cases += made(('desk: ' + title, calls) for title, calls in filled_with_nothing())
     return [case._replace(title='%d %s' % (n, case.title)) for n, case in enumerate(cases)]
 
 

@@ -256,6 +256,8 @@ class Machine:
         return self.at_desk(self.desk.cancel(number_at(part, 0)), part)
 
     def fill(self, c, part):
+        if not part:
+            return self.cancel(c, part)
         self.desk = desk.Desk(part[0], part[1:1 + desk.RIDERS], part[1 + desk.RIDERS:])
 
 

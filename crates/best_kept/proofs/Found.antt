@@ -3,7 +3,7 @@
 use mathlib.Core.Path.{◌≡◌, refl, ap, subst}
 use mathlib.Core.Bool.{Bool, true, false}
 use mathlib.Core.List.{List, [], ◌∷◌}
-use Prim.Native.Nat.{ℕ, zero, suc, ◌≤◌}
+use Prim.Native.Nat.{ℕ, zero, suc, ◌-◌, ◌≤◌, ◌<◌}
 use native.Mathlib.Omega.{arith}
 use lib.IntN.{ℤ}
 use lib.Dec.{T}
@@ -11,6 +11,7 @@ use lib.Signed.{◌≤ℤ◌, le_z, lt_z, lt_z_yes, lt_z_no, clash_ℤ}
 use lib.ListN.{length, get_or}
 use Rattle.std.specs.List.Sorted.{IsPartitionedBy, IsPartitionPoint}
 use Rattle.std.proofs.lemmas.Grind.{common_steps}
+use Rattle.std.proofs.lemmas.List.{get_or_default}
 use Rattle.model.specs.Lists.{first_where}
 use Rattle.laws.specs.Int.{≤ℤ-trans}
 use Rattle.laws.specs.Members.{T_true, true-T, false-T}
@@ -48,3 +49,11 @@ module _ (x : ℤ) where
   first_above (z ∷ zs) (suc i) l h =
       rw (not-above z (h.0 0 z (omega arith) (omega arith)))
       (ap suc (first_above zs i (omega arith) (λ j e p k. h.0 (suc j) e (omega arith) (omega arith), λ j e p k. h.1 (suc j) e (omega arith) (omega arith))))
+
+  -- where the last is at most x, none is above it
+  pub none_above : (zs : List ℤ) → Ascends zs → (d : ℤ) → (0 < length zs → le_z (get_or zs (length zs - 1) d) x ≡ true) → length zs ≡ first_where (lt_z x) zs
+  none_above zs a d last =
+      let at-last : (e : ℤ) → 0 < length zs → le_z (get_or zs (length zs - 1) e) x ≡ true =
+      λ e h. subst (λ y. le_z y x ≡ true) (get_or_default zs (length zs - 1) d e (omega (arith, h))) (last h) in
+      first_above zs (length zs) (omega arith)
+      ((λ j e p k. parted zs a j (length zs - 1) e (omega (arith, p, k)) (omega (arith, p, k)) (at-last e (omega (arith, p, k)))), λ j e p k. absurd (omega (arith, p, k)))

@@ -7,11 +7,14 @@ ghost use Rattle.std.specs.Int.Signed.{lt_z};
 ghost use Rattle.model.specs.Lists.{first_where};
 ghost use Rattle.best_kept.specs.Placed.{Ascends, opened, Placed};
 
-// How many of the first n costs are at most `cost`. They ascend.
+// How many of the first n costs are at most `cost`. They ascend, and most policies cost at least as much as the last of them, so it looks from that one on.
 fn place(costs: &[i64], n: usize, cost: i64) -> usize
     requires { (n ≤ 64) × (n ≤ length costs.now) × Ascends (take n costs.now) }
     ensures { result ≡ first_where (lt_z cost) (take n costs.now) }
 {
+    if 0 < n && costs[n - 1] <= cost {
+        return n;
+    }
     costs[..n].partition_point(|x| *x <= cost)
 }
 

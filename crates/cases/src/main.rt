@@ -21,7 +21,7 @@
 //
 //  o  opens the desk with the part          y  commits for the rider
 //  h  asks for the rank for the rider       n  cancels for the rider
-//  f  fills the desk: bytes of k, of the ranks held and of the ranks committed
+//  f  fills the desk: bytes of k, of the ranks held and of the ranks committed; of no bytes it cancels for rider 0
 //
 // A call prints its letter, then its number and two figures, 0 where it has none, and all that the lent slices hold after it (for w and x the z costs too);
 // s and b print the bytes that they show. The figures of a call at the desk are the ranks that the rider holds and has committed to; k and all ranks
@@ -274,8 +274,8 @@ fn run_commands(words: &mut [i32], bytes: &mut [u8]) -> bool {
             b'm' => n = words_of(part, words),
             b'r' | b'g' | b'w' | b'x' => run_lent(h, &words[..n], part),
             b's' | b'b' | b'p' => print_part(h, part),
-            b'f' => desk = filled(part),
-            b'o' | b'h' | b'y' | b'n' => desk = serve(h, desk, part),
+            b'f' if !part.is_empty() => desk = filled(part),
+            b'o' | b'h' | b'y' | b'n' | b'f' => desk = serve(h, desk, part),
             _ => print_call(h.kind, ask(h, &words[..n], part)),
         }
     }

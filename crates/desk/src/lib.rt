@@ -58,10 +58,7 @@ pub fn open(desk: &mut Desk, record: &[u8]) -> Result<(), Refusal>
     ensures { reply (number_in result) desk.new ≡ opening desk.old «record».now }
 {
     let a = accept::accept(record)?;
-    *desk = Desk {
-        k: a.k as u8,
-        ..Desk::fresh()
-    };
+    *desk = desk.opening(0, a.k as u8).desk;
     Ok(())
 }
 

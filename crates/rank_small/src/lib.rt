@@ -97,7 +97,9 @@ pub fn rank_small(
 {
     asked::counted_number(b, k)?;
     let z = lines::sizes(b);
-    let x = index::index(b, z);
+    // filled here: given by value it would be copied, which takes long beside a book of few plans
+    let mut x = [0; 192];
+    index::fill_index(b, z, &mut x);
     let m = feasible::find_barred(b, z, &x);
     if m.dead.has(0) {
         return Err(Refusal::NoPlan);

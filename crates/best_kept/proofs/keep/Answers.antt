@@ -44,4 +44,5 @@ open-requires c =
     let e = simp to_z-of_z at c.place-i.ensures in
     let g = goes c.args.costs.now c.args.n c.args.k c.args.cost c.place-i.result c.min-last.result (length c.args.plan.now) (length c.args.plans.now)
     c.requires.0 c.requires.1 c.requires.3 c.requires.4 e c.min-last.ensures c.if-k-i.false in
-    (g.high, omega arith)
+    let h = g.high in
+    (omega (arith, h), omega (arith, h))

@@ -71,7 +71,7 @@ returns-then-has c =
 pub is_small-requires : goal.is_small-requires
 is_small-requires c =
     let d = counted_says c.args.b.now c.args.k (sym c.in_ok-counted_number.ensures) in
-    (c.index-x.ensures, all_barred _ _ _ c.find_barred-m.ensures, has_by c.args.b.now d.ok c.find_barred-m.result.off c.find_barred-m.result.dead c.find_barred-m.ensures c.has.result c.has.ensures ∙ ap not c.if-has.false)
+    (c.fill_index.ensures, all_barred _ _ _ c.find_barred-m.ensures, has_by c.args.b.now d.ok c.find_barred-m.result.off c.find_barred-m.result.dead c.find_barred-m.ensures c.has.result c.has.ensures ∙ ap not c.if-has.false)
 
 -- 30 was asked
 pub returns-then-not-is_small : goal.returns-then-not-is_small
@@ -131,7 +131,7 @@ go_through-requires c =
     let d = counted_says c.args.b.now c.args.k (sym c.in_ok-counted_number.ensures) in
     let l : c.sizes-z.result.s ≤ length row
     = omega (arith, c.sizes-z.ensures.sizes.s_is, (accepted c.args.b.now d.ok).sizes.s_high, row_long) in (
-      c.index-x.ensures,
+      c.fill_index.ensures,
       all_barred _ _ _ c.find_barred-m.ensures,
       has_by c.args.b.now d.ok c.find_barred-m.result.off c.find_barred-m.result.dead c.find_barred-m.ensures c.has.result c.has.ensures ∙ ap not c.if-has.false,
       few_policies c.args.b.now (sym c.is_small.ensures ∙ c.if-not-is_small.false),
