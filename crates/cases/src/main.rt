@@ -207,9 +207,11 @@ fn ranks_at(part: &[u8], from: usize) -> [u8; 16]
     ranks
 }
 
-fn filled(part: &[u8]) -> Desk {
+fn filled(part: &[u8]) -> Desk
+    requires { 0 < length part.now }
+{
     Desk {
-        k: part.first().copied().unwrap_or(0),
+        k: part[0],
         held: ranks_at(part, 1),
         committed: ranks_at(part, 17),
     }
